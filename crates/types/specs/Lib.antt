@@ -1,0 +1,6 @@
+pub mod Choice
+pub mod Kinds
+pub mod Ways
+pub mod Counters
+pub mod Refusals
+pub mod Told
