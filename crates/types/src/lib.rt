@@ -3,7 +3,7 @@
 // Answers that a reader gives have the place (and the budget) first in every case, so that each case lays them at the
 // same offset.
 ghost use mathlib.Core.Path.{_≡_};
-ghost use mathlib.Core.List.{[], _∷_};
+ghost use Prim.Native.Nat.{_≤_, _<_};
 ghost use Rattle.types.specs.Kinds.{kindCode, kindFrom, specialCode, specialFrom};
 ghost use Rattle.types.specs.Refusals.{refusalNumber, noRoom};
 ghost use Rattle.types.specs.Ways.{exact, unnamedWay};
@@ -267,7 +267,7 @@ impl Kind {
 
     // The code of a kind.
     pub fn code(self) -> u8
-        ensures { λ r. ⌜ r ≡ kindCode self ⌝ }
+        ensures { λ r. ⌜ (r ≡ kindCode self) × (r < 8) ⌝ }
     {
         match self {
             Kind::Special => 0,
@@ -338,7 +338,7 @@ impl Way {
 impl Place {
     // The place within a source of that length: one past the end counts as the end.
     pub fn within(self, length: usize) -> usize
-        ensures { λ r. ⌜ r ≡ placeIn length (self .0) ⌝ }
+        ensures { λ r. ⌜ (r ≡ placeIn length (self .0)) × (r ≤ length) ⌝ }
     {
         let place = self.0;
         if length < place {

@@ -1,0 +1,196 @@
+// The atom header and the file's signature, read under each way and written into a lent buffer. Document 01, "Bytes of an
+// atom"; format.rs, `write_atom_header` to `read_header`.
+ghost use mathlib.Core.Path.{_≡_};
+ghost use mathlib.Core.List.{_++_};
+ghost use Prim.Native.Nat.{_≤_, _<_, _+_, _*_, _^_};
+ghost use lib.ListN.{length, drop, getD};
+ghost use Rattle.types.specs.Kinds.{kindFrom, kindKnown};
+ghost use Rattle.lent.specs.Lent.{writtenAnswer, writtenContent};
+ghost use Rattle.header.specs.Header.{headerRead, headerFrom, headerBytes, laterBytes, laterFrom};
+ghost use Rattle.header.specs.Signature.{versionRead, judged, signatureBytes};
+use types::HeaderAnswer;
+use types::Kind;
+use types::KindAnswer;
+use types::Place;
+use types::Refusal;
+use types::VersionAnswer;
+use types::Way;
+use types::Written;
+
+// How many bytes the later part of an argument takes.
+fn later_length(rest: u64) -> usize
+    requires { ⌜ rest < 128 ^ 9 ⌝ }
+    ensures { λ r. ⌜ (r ≡ length (laterBytes 9 rest)) × (r ≤ 9) ⌝ }
+{
+    let mut count: usize = 1;
+    let mut arg = rest;
+    while 128 <= arg {
+        arg = arg / 128;
+        count += 1;
+    }
+    count
+}
+
+// Writes the later part of an argument, 7 bits to a byte, lowest first.
+fn write_later(out: &mut [u8], rest: u64)
+    requires { ⌜ (rest < 128 ^ 9) × (length (laterBytes 9 rest) ≤ length (now out)) ⌝ }
+    ensures { λ r. ⌜ now (out .exit) ≡ laterBytes 9 rest ++ drop (length (laterBytes 9 rest)) (now (out .entry)) ⌝ }
+{
+    let mut i: usize = 0;
+    let mut arg = rest;
+    while 128 <= arg {
+        out[i] = (arg % 128 + 128) as u8;
+        arg = arg / 128;
+        i += 1;
+    }
+    out[i] = arg as u8;
+}
+
+// Writes an atom header: one byte where the argument is below 16, and up to ten.
+pub fn write_atom_header(out: &mut [u8], kind: Kind, arg: u64) -> Written
+    ensures { λ r. ⌜ r ≡ writtenAnswer (headerBytes kind arg) (now (out .entry)) ⌝ }
+    ensures { λ r. ⌜ now (out .exit) ≡ writtenContent (headerBytes kind arg) (now (out .entry)) ⌝ }
+{
+    let first_byte = kind.code() * 32;
+    if arg < 16 {
+        return lent::put_one(out, first_byte + arg as u8);
+    }
+    let rest = arg / 16;
+    let length = later_length(rest) + 1;
+    if out.len() < length {
+        return Written::Refused(Refusal::no_room(length));
+    }
+    out[0] = first_byte + 16 + (arg % 16) as u8;
+    write_later(&mut out[1..], rest);
+    Written::Count(length)
+}
+
+fn wide(byte: u8) -> u64
+    ensures { λ r. ⌜ (r ≡ byte) × (r < 256) ⌝ }
+{
+    byte as u64
+}
+
+// The kind of a code of three bits.
+fn kind_of(code: u8) -> Kind
+    ensures { λ r. ⌜ r ≡ kindKnown (kindFrom code) ⌝ }
+{
+    match Kind::from_u8(code) {
+        KindAnswer::Known(kind) => kind,
+        KindAnswer::Refused(_) => Kind::Bytes,
+    }
+}
+
+// Where the later bytes end at the latest: nine on, or at the source's end.
+fn later_end(length: usize, at: usize) -> usize
+    requires { ⌜ at ≤ length ⌝ }
+    ensures { λ r. ⌜ (at ≤ r) × (r ≤ length) × (r ≤ at + 9) × (r < at + 9 → r ≡ length) ⌝ }
+{
+    if 9 < length - at {
+        return at + 9;
+    }
+    length
+}
+
+// Reads the later bytes of a header, whose kind and low 4 bits are known.
+fn read_later(source: &[u8], at: usize, kind: Kind, low: u64, way: Way) -> HeaderAnswer
+    requires { ⌜ (at ≤ length (now source)) × (low < 16) ⌝ }
+    ensures { λ r. ⌜ r ≡ laterFrom way (now (source .entry)) at kind low ⌝ }
+{
+    let end = later_end(source.len(), at);
+    let mut place = at;
+    let mut arg = low;
+    let mut offset: u32 = 4;
+    while place < end {
+        let byte = source[place];
+        let data = byte % 128;
+        arg = arg | (wide(data) << offset);
+        offset += 7;
+        place += 1;
+        if data == byte {
+            return HeaderAnswer::Read(Place(place), kind, arg);
+        }
+    }
+    if end - at == 9 {
+        return HeaderAnswer::Read(Place(place), kind, arg);
+    }
+    if way.is_exact() {
+        return HeaderAnswer::Refused(Place(place), Refusal::Eof);
+    }
+    HeaderAnswer::Read(Place(place), kind, arg)
+}
+
+// Reads an atom header (kind and argument) at a place, under a way.
+pub fn read_atom_header(source: &[u8], place: Place, way: Way) -> HeaderAnswer
+    ensures { λ r. ⌜ r ≡ headerRead way (now (source .entry)) (place .0) ⌝ }
+{
+    let at = place.within(source.len());
+    if at < source.len() {
+        let first_byte = source[at];
+        let kind = kind_of(first_byte / 32);
+        let low = wide(first_byte % 16);
+        if first_byte / 16 % 2 == 0 {
+            return HeaderAnswer::Read(Place(at + 1), kind, low);
+        }
+        return read_later(source, at + 1, kind, low, way);
+    }
+    if way.is_exact() {
+        return HeaderAnswer::Refused(Place(at), Refusal::Eof);
+    }
+    HeaderAnswer::Read(Place(at), Kind::Special, 0)
+}
+
+// Writes the signature. The first three bytes are 'Pot' (0x506F74), and the fourth is the version.
+pub fn write_header(out: &mut [u8], version: u8) -> Written
+    ensures { λ r. ⌜ r ≡ writtenAnswer (signatureBytes version) (now (out .entry)) ⌝ }
+    ensures { λ r. ⌜ now (out .exit) ≡ writtenContent (signatureBytes version) (now (out .entry)) ⌝ }
+{
+    if out.len() < 4 {
+        return Written::Refused(Refusal::no_room(4));
+    }
+    out[0] = 0x50;
+    out[1] = 0x6F;
+    out[2] = 0x74;
+    out[3] = version;
+    Written::Count(4)
+}
+
+// The byte at a place and a distance from it, zero past the end.
+fn byte_at(source: &[u8], at: usize, i: usize) -> u32
+    requires { ⌜ (at ≤ length (now source)) × (i < 4) ⌝ }
+    ensures { λ r. ⌜ (r ≡ getD (drop at (now (source .entry))) i 0) × (r < 256) ⌝ }
+{
+    let place = at + i;
+    if place < source.len() {
+        return source[place] as u32;
+    }
+    0
+}
+
+// Takes a signature's word if it has every bit of 'Pot'.
+fn judge(header: u32, place: Place) -> VersionAnswer
+    ensures { λ r. ⌜ r ≡ judged header place ⌝ }
+{
+    if header & 0x506F_7400 == 0x506F_7400 {
+        return VersionAnswer::Read(place, (header % 256) as u8);
+    }
+    VersionAnswer::Refused(place, Refusal::IncompatibleVersion)
+}
+
+// Reads the signature at a place, under a way, and answers the version.
+pub fn read_header(source: &[u8], place: Place, way: Way) -> VersionAnswer
+    ensures { λ r. ⌜ r ≡ versionRead way (now (source .entry)) (place .0) ⌝ }
+{
+    let at = place.within(source.len());
+    let header = byte_at(source, at, 0) * 0x100_0000
+        + byte_at(source, at, 1) * 0x1_0000
+        + byte_at(source, at, 2) * 0x100
+        + byte_at(source, at, 3);
+    if 4 <= source.len() - at {
+        return judge(header, Place(at + 4));
+    }
+    if way.is_exact() {
+        return VersionAnswer::Refused(Place(source.len()), Refusal::Eof);
+    }
+    judge(header, Place(source.len()))
+}
