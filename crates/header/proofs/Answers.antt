@@ -79,26 +79,26 @@ pot version h =
     rw (a, b, c, d) refl
 
 -- a header by its first byte: the bytes from its place on
-opened : (s : List ℕ) (at : ℕ) → at < length s → drop at s ≡ getD s at 0 ∷ drop (at + 1) s
+pub opened : (s : List ℕ) (at : ℕ) → at < length s → drop at s ≡ getD s at 0 ∷ drop (at + 1) s
 opened s at h = drop-cons s at 0 h ∙ ap (λ (n : ℕ). getD s at 0 ∷ drop n s) (sym (add-one at))
 
 -- what the definitions say of them where no byte follows the first, and where more do
-one-length : (b : ℕ) (l : List ℕ) → b / 16 % 2 ≡ 0 → headerLength (b ∷ l) ≡ 1
+pub one-length : (b : ℕ) (l : List ℕ) → b / 16 % 2 ≡ 0 → headerLength (b ∷ l) ≡ 1
 unfolding headerLength
 one-length b l e = simp e
 
-one-argument : (b : ℕ) (l : List ℕ) → b / 16 % 2 ≡ 0 → headerArgument (b ∷ l) ≡ b % 16
+pub one-argument : (b : ℕ) (l : List ℕ) → b / 16 % 2 ≡ 0 → headerArgument (b ∷ l) ≡ b % 16
 unfolding headerArgument
 one-argument b l e = simp e (small b)
   where
     small : (b : ℕ) → (b % 16 + 16 * 0) % 2 ^ 64 ≡ b % 16
     small b = omega arith
 
-more-length : (b : ℕ) (l : List ℕ) → b / 16 % 2 ≡ 1 → headerLength (b ∷ l) ≡ suc (laterCount 9 l)
+pub more-length : (b : ℕ) (l : List ℕ) → b / 16 % 2 ≡ 1 → headerLength (b ∷ l) ≡ suc (laterCount 9 l)
 unfolding headerLength
 more-length b l e = simp e
 
-more-argument : (b : ℕ) (l : List ℕ) → b / 16 % 2 ≡ 1 → headerArgument (b ∷ l) ≡ argumentFrom (b % 16) (laterValue 9 l)
+pub more-argument : (b : ℕ) (l : List ℕ) → b / 16 % 2 ≡ 1 → headerArgument (b ∷ l) ≡ argumentFrom (b % 16) (laterValue 9 l)
 unfolding headerArgument
 more-argument b l e = simp e
 
