@@ -81,13 +81,27 @@ fn likely_arg(random: &mut Random, kind: u8) -> u64 {
 
 /// Appends a body as long as the header says, or some bytes if that is long.
 fn put_body(random: &mut Random, bytes: &mut Vec<u8>, kind: u8, arg: u64) {
-    let length = match kind {
-        1..=3 => arg.wrapping_add(1),
-        7 => arg,
-        _ => 0,
-    };
-    let length = if length > 4096 { random.below(24) } else { length };
-    for _ in 0..length {
+    match kind {
+        1..=3 => put_number(random, bytes, kind, arg.wrapping_add(1)),
+        7 => put_edged(random, bytes, arg),
+        _ => {}
+    }
+}
+
+/// Appends the bytes of a number: of a float, often a pattern at an edge.
+pub fn put_number(random: &mut Random, bytes: &mut Vec<u8>, kind: u8, count: u64) {
+    match (kind, count) {
+        (3, 2) => bytes.extend(edges::half(random).to_le_bytes()),
+        (3, 4) => bytes.extend(edges::single(random).to_le_bytes()),
+        (3, 8) => bytes.extend(edges::double(random).to_le_bytes()),
+        _ => put_edged(random, bytes, count),
+    }
+}
+
+/// Appends bytes, some of them at the edges of a byte; only a few if `count` is large.
+fn put_edged(random: &mut Random, bytes: &mut Vec<u8>, count: u64) {
+    let count = if count > 4096 { random.below(24) } else { count };
+    for _ in 0..count {
         let byte = random.byte();
         bytes.push(if random.once_in(6) { *random.pick(&[0x00, 0x7f, 0x80, 0xff]) } else { byte });
     }

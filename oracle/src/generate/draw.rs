@@ -36,15 +36,15 @@ impl Drawer {
         let way = *random.pick(&Way::ALL);
         let before = random.index(4) * random.index(2);
         random.fill(&mut self.bytes, before);
+        let kind = kind_for(random, code);
         let word = match code {
             code::READ_HEADER => put_signature(random, &mut self.bytes),
             code::READ_ATOM_HEADER | code::READ_ATOM => put_atom(random, &mut self.bytes),
-            _ => put_counted(random, &mut self.bytes, code),
+            _ => put_counted(random, &mut self.bytes, code, kind),
         };
         let body = self.bytes.len() - before;
         resize(random, &mut self.bytes, body);
         let place = place(random, before, self.bytes.len());
-        let kind = kind_for(random, code);
         let reading = Reading { way, place, source: &self.bytes };
         match code {
             code::READ_ATOM_HEADER => Request::ReadAtomHeader(reading),
@@ -174,7 +174,7 @@ fn put_atom(random: &mut Random, bytes: &mut Vec<u8>) -> u64 {
 }
 
 /// Appends bytes for a read of a count that the request gives; answers that count.
-fn put_counted(random: &mut Random, bytes: &mut Vec<u8>, code: u8) -> u64 {
+fn put_counted(random: &mut Random, bytes: &mut Vec<u8>, code: u8, kind: u8) -> u64 {
     let count = match code {
         code::INTEGER_READ_FROM if !random.once_in(8) => *random.pick(&atoms::INTEGER_COUNTS),
         code::FLOAT_READ_FROM if !random.once_in(8) => *random.pick(&atoms::FLOAT_COUNTS),
@@ -182,8 +182,8 @@ fn put_counted(random: &mut Random, bytes: &mut Vec<u8>, code: u8) -> u64 {
         code::BUFFERED_READ_BYTES if random.once_in(16) => edges::word(random),
         _ => random.below(24),
     };
-    let length = if count > 64 { random.index(24) } else { usize::try_from(count).unwrap_or(0) };
-    random.fill(bytes, length);
+    let length = if count > 64 { random.below(24) } else { count };
+    atoms::put_number(random, bytes, kind, length);
     count
 }
 

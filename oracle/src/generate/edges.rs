@@ -69,6 +69,20 @@ pub fn widened(half: u16) -> u32 {
     sign | magnitude
 }
 
+/// Magnitudes of binary16 at which something changes: zero, the ends of subnormals and normals, infinity, the NaNs.
+const HALVES: [u16; 11] = [0x0000, 0x0001, 0x03ff, 0x0400, 0x3800, 0x3c00, 0x7bff, 0x7c00, 0x7c01, 0x7e00, 0x7fff];
+
+/// A binary16 pattern, often at an edge.
+#[allow(clippy::cast_possible_truncation)]
+pub fn half(random: &mut Random) -> u16 {
+    let bits = random.word() as u16;
+    if random.once_in(2) {
+        random.pick(&HALVES) | bits & 0x8000
+    } else {
+        bits
+    }
+}
+
 /// Magnitudes of binary32 at which something changes: the ends of subnormals, of binary16, of `is_zero`, of the
 /// lossless integers and of i32, and the NaNs.
 const SINGLES: [u32; 26] = [
