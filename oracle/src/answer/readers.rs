@@ -5,14 +5,14 @@ use super::source::{exact, filled, place, Source};
 use super::{kind, size, Oracle};
 use crate::format::{read_atom, read_atom_header, read_header, Atom, Float, Integer, Kind, Nucleus};
 use crate::reader::BufferedBytes;
-use crate::wire::{self, After, Answer, Reading, Refusal, Request, Text, Value, Way};
+use crate::wire::{self, After, Answer, Reading, Refusal, Request, Skip, Text, Value, Way};
 use crate::Error;
 
 impl Oracle {
     pub(super) fn answer_reader<'a>(&'a mut self, request: &Request<'a>) -> Answer<'a> {
         let reading = reading_of(request);
         if self.too_long(request, &reading) {
-            return Answer::Skipped;
+            return Answer::Skipped(Skip::Length);
         }
         match reading.way {
             Way::Filled => self.read(filled(&reading), request, &reading),

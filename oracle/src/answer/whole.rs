@@ -3,7 +3,7 @@
 use super::source::{exact, place};
 use super::{size, Oracle};
 use crate::format::{read_atom, read_atom_header, Nucleus};
-use crate::wire::{After, Answer, Reading, Refusal, Request, Value, Way};
+use crate::wire::{After, Answer, Reading, Refusal, Request, Skip, Value, Way};
 
 /// The longest input that the tally takes.
 const LONGEST: usize = 16_777_216;
@@ -23,7 +23,7 @@ impl Oracle {
         while start < source.len() as u64 {
             let reading = Reading { way: Way::ExactLent, place: start, source };
             if self.long_string(&reading, budget as u64) {
-                return Answer::Skipped;
+                return Answer::Skipped(Skip::Length);
             }
             let mut reader = exact(&reading);
             let outcome = read_atom(&mut reader, &mut budget, &mut self.scratch);
@@ -47,7 +47,7 @@ impl Oracle {
         while start < source.len() as u64 {
             let reading = Reading { way: Way::ExactLent, place: start, source };
             if self.long_string(&reading, u64::MAX) {
-                return Answer::Skipped;
+                return Answer::Skipped(Skip::Length);
             }
             let mut reader = exact(&reading);
             let mut budget = usize::MAX;

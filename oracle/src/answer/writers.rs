@@ -9,12 +9,12 @@ use crate::format::{
     write_i32, write_i48, write_i64, write_i8, write_named, write_none, write_special, write_u128, write_u16,
     write_u24, write_u32, write_u48, write_u64, write_u8, write_unit, Special,
 };
-use crate::wire::{Answer, Request, Value, Writer};
+use crate::wire::{Answer, Request, Skip, Value, Writer};
 
 impl Oracle {
     pub(super) fn answer_writer<'a>(&'a mut self, request: &Request<'_>) -> Answer<'a> {
         if outside_width(request) {
-            return Answer::Skipped;
+            return Answer::Skipped(Skip::Width);
         }
         self.written.clear();
         let count = write(&mut self.written, request).expect("a Vec takes every byte");

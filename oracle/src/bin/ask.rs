@@ -37,7 +37,7 @@ fn main() -> ExitCode {
     let mut oracle = Oracle::new(options.reserve);
     match serve(io::stdin().lock(), io::stdout().lock(), options.echo, &mut oracle) {
         Ok(counts) => {
-            eprintln!("answered {}, skipped {}", counts.answered, counts.skipped);
+            eprintln!("{counts}");
             ExitCode::SUCCESS
         }
         Err(error) => {

@@ -131,7 +131,7 @@ impl Drawer {
             code::WRITE_HEADER => Request::WriteHeader(random.byte()),
             0x60..=0x6d => {
                 let writer = Writer::ALL[usize::from(code - code::WRITE_INTEGER)];
-                Request::WriteInteger(writer, edges::value(random, writer.takes()))
+                Request::WriteInteger(writer, edges::written(random, writer))
             }
             code::WRITE_SPECIAL => Request::WriteSpecial(random.below(7) as u8),
             code::WRITE_NONE => Request::WriteNone,

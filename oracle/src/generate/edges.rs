@@ -1,7 +1,7 @@
 //! Values at the boundaries, and random values around them.
 
 use super::random::Random;
-use crate::wire::{Float, Integer, Variant};
+use crate::wire::{Float, Integer, Variant, Writer};
 
 /// The powers of two at which a width, a cast, a header length or a float's precision ends.
 const POWERS: [u32; 20] = [0, 4, 7, 8, 11, 15, 16, 18, 23, 24, 31, 32, 47, 48, 52, 53, 63, 64, 126, 127];
@@ -32,6 +32,18 @@ pub fn word(random: &mut Random) -> u64 {
 
 /// A value of the variant, often near a power of two.
 pub fn value(random: &mut Random, variant: Variant) -> u128 {
+    number(random, variant.signed(), variant.width())
+}
+
+/// A value for the writer, now and then one outside its width.
+pub fn written(random: &mut Random, writer: Writer) -> u128 {
+    let width = if random.once_in(16) { writer.takes().width() } else { writer.width() };
+    number(random, writer.takes().signed(), width)
+}
+
+/// A number of that many bits, often near a power of two.
+#[allow(clippy::cast_possible_truncation)]
+fn number(random: &mut Random, signed: bool, width: u32) -> u128 {
     let near = 1_u128 << if random.once_in(2) { *random.pick(&POWERS) } else { random.below(128) as u32 };
     let bits = match random.below(4) {
         0 => random.wide(),
@@ -39,13 +51,13 @@ pub fn value(random: &mut Random, variant: Variant) -> u128 {
         2 => near.wrapping_add(u128::from(random.below(3))).wrapping_sub(1).wrapping_neg(),
         _ => random.wide() >> random.below(128),
     };
-    cut(variant, bits)
+    cut(signed, width, bits)
 }
 
-/// The value that the variant has of the low bits.
-pub fn cut(variant: Variant, bits: u128) -> u128 {
-    let spare = 128 - variant.width();
-    if variant.signed() {
+/// The number that the low bits are, sign extended if it is signed.
+pub fn cut(signed: bool, width: u32, bits: u128) -> u128 {
+    let spare = 128 - width;
+    if signed {
         ((bits << spare).cast_signed() >> spare).cast_unsigned()
     } else {
         bits << spare >> spare

@@ -99,7 +99,7 @@ fn short_integers(sink: &mut Sink<impl Write>) -> io::Result<()> {
             }
         }
         for variant in [Variant::I16, Variant::U16] {
-            integer(sink, Integer { variant, bits: edges::cut(variant, u128::from(bits)) })?;
+            integer(sink, Integer { variant, bits: edges::cut(variant.signed(), 16, u128::from(bits)) })?;
         }
     }
     for byte in 0..=u8::MAX {
@@ -109,7 +109,7 @@ fn short_integers(sink: &mut Sink<impl Write>) -> io::Result<()> {
             }
         }
         for variant in [Variant::I8, Variant::U8] {
-            integer(sink, Integer { variant, bits: edges::cut(variant, u128::from(byte)) })?;
+            integer(sink, Integer { variant, bits: edges::cut(variant.signed(), 8, u128::from(byte)) })?;
         }
     }
     Ok(())

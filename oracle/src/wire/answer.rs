@@ -195,11 +195,20 @@ impl After {
     }
 }
 
+/// Why a request is outside the domain.
+#[derive(Debug, Clone, Copy, PartialEq, Eq)]
+pub enum Skip {
+    /// A 24 or 48 bit writer is given a value outside its width.
+    Width,
+    /// A string or a buffer is longer than what can be reserved.
+    Length,
+}
+
 /// The answer to a request.
 #[derive(Debug, Clone, Copy, PartialEq, Eq)]
 pub enum Answer<'a> {
     /// The request is outside the domain.
-    Skipped,
+    Skipped(Skip),
     Given(After, Result<Value<'a>, Refusal>),
 }
 
@@ -210,7 +219,7 @@ impl Answer<'_> {
     /// Puts the answer on an empty line, without a line feed.
     pub fn put(&self, line: &mut Vec<u8>) {
         match self {
-            Self::Skipped => line.extend_from_slice(Self::SKIPPED),
+            Self::Skipped(_) => line.extend_from_slice(Self::SKIPPED),
             Self::Given(after, outcome) => {
                 put_word(line, outcome.err().map_or(0, Refusal::number));
                 after.put(line);

@@ -8,7 +8,7 @@ mod request;
 mod serve;
 mod words;
 
-pub use answer::{After, Answer, Nucleus, Refusal, Text, Value};
+pub use answer::{After, Answer, Nucleus, Refusal, Skip, Text, Value};
 pub use number::{Float, Integer, Variant, Writer};
 pub use request::{Reading, Request, Way};
 pub use serve::{serve, Answers, Counts};

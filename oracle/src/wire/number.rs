@@ -168,13 +168,19 @@ impl Writer {
         }
     }
 
+    /// The width in bits of the largest number that it writes.
+    #[must_use]
+    pub const fn width(self) -> u32 {
+        match self {
+            Self::I24 | Self::U24 => 24,
+            Self::I48 | Self::U48 => 48,
+            _ => self.takes().width(),
+        }
+    }
+
     /// Whether the value is inside the writer's own width: only then has document 01 an oracle for it.
     #[must_use]
     pub const fn holds(self, bits: u128) -> bool {
-        match self {
-            Self::I24 | Self::U24 => holds(self.takes().signed(), 24, bits),
-            Self::I48 | Self::U48 => holds(self.takes().signed(), 48, bits),
-            _ => self.takes().holds(bits),
-        }
+        holds(self.takes().signed(), self.width(), bits)
     }
 }

@@ -1,8 +1,9 @@
 //! A line in, a line out: the loop that every program which answers requests has.
 
+use std::fmt;
 use std::io::{self, BufRead, BufReader, BufWriter, Read, Write};
 
-use super::answer::Answer;
+use super::answer::{Answer, Skip};
 use super::request::Request;
 
 /// Whatever answers requests.
@@ -14,7 +15,31 @@ pub trait Answers {
 #[derive(Debug, Default, Clone, Copy, PartialEq, Eq)]
 pub struct Counts {
     pub answered: u64,
-    pub skipped: u64,
+    /// Skipped, being outside the width of a 24 or 48 bit writer.
+    pub width: u64,
+    /// Skipped, being too long to reserve.
+    pub length: u64,
+}
+
+impl Counts {
+    fn add(&mut self, answer: &Answer<'_>) {
+        *match answer {
+            Answer::Given(..) => &mut self.answered,
+            Answer::Skipped(Skip::Width) => &mut self.width,
+            Answer::Skipped(Skip::Length) => &mut self.length,
+        } += 1;
+    }
+
+    const fn all(&self) -> u64 {
+        self.answered + self.width + self.length
+    }
+}
+
+impl fmt::Display for Counts {
+    fn fmt(&self, f: &mut fmt::Formatter<'_>) -> fmt::Result {
+        let Self { answered, width, length } = self;
+        write!(f, "answered {answered}, skipped {width} outside a writer's width and {length} too long to reserve")
+    }
 }
 
 /// Answers every line of the input. With `echo`, the request as it was understood and ` = ` stand before its answer.
@@ -40,10 +65,7 @@ pub fn serve(input: impl Read, output: impl Write, echo: bool, entries: &mut imp
             output.write_all(b" = ")?;
         }
         let answer = entries.answer(&request);
-        match answer {
-            Answer::Skipped => counts.skipped += 1,
-            Answer::Given(..) => counts.answered += 1,
-        }
+        counts.add(&answer);
         told.clear();
         answer.put(&mut told);
         told.push(b'\n');
@@ -54,7 +76,7 @@ pub fn serve(input: impl Read, output: impl Write, echo: bool, entries: &mut imp
 fn parse<'b>(line: &[u8], bytes: &'b mut Vec<u8>, counts: Counts) -> io::Result<Request<'b>> {
     let line = line.strip_suffix(b"\n").unwrap_or(line);
     Request::parse(line, bytes).map_err(|malformed| {
-        let number = counts.answered + counts.skipped + 1;
+        let number = counts.all() + 1;
         io::Error::other(format!("line {number}: {}: {}", malformed.0, String::from_utf8_lossy(line)))
     })
 }

@@ -43,10 +43,11 @@ impl<'l> Words<'l> {
         Ok(value)
     }
 
-    /// A number below `limit`.
+    /// A number below `limit`, which is at most 256.
+    #[allow(clippy::cast_possible_truncation)]
     pub fn below(&mut self, limit: u64) -> Result<u8, Malformed> {
         match self.word()? {
-            value if value < limit => u8::try_from(value).map_err(|_| Malformed("a number is too large")),
+            value if value < limit => Ok(value as u8),
             _ => Err(Malformed("a number is too large for its field")),
         }
     }
