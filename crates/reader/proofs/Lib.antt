@@ -1,0 +1,4 @@
+pub mod Strings
+pub mod Raw
+pub mod Parts
+pub mod Starts
