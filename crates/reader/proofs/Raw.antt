@@ -1,19 +1,20 @@
 -- The laws of the raw byte read: the buffer filled, or what was left of the source.
 use mathlib.Core.Path.{_≡_, refl, _∙_, sym, ap}
-use mathlib.Core.Bool.{true, false, and-false}
+use mathlib.Core.Bool.{Bool, true, false, and-false}
 use mathlib.Core.List.{List, _++_}
 use Prim.Native.Nat.{ℕ, _+_, _-_, _≤_, _<_}
 use native.Mathlib.Nat.{add-sub-cancel-left}
 use native.Mathlib.Omega.{arith}
-use lib.ListN.{length, take, drop, length-drop}
+use lib.Dec.{ltb}
+use lib.ListN.{length, take, drop, length-take, length-drop}
 use lib.Seq.{take-all}
-use borrow.Author.Tests.{le-ltb, lt-ltb}
+use borrow.Author.Tests.{le-ltb, lt-ltb, ltb-true, ltb-false}
 use Rattle.types.specs.Ways.{exact}
 use Rattle.types.specs.declared.Way.{Way}
 use Rattle.types.specs.declared.Refusal.the-variants as R
 use Rattle.types.specs.declared.RawAnswer.the-variants as RA
 use Rattle.reader.specs.Strings.{startOf, stringOf}
-use Rattle.reader.specs.Raw.{rawBytes, rawAnswer, rawBuffer, rawExactly, rawExactlyBuffer}
+use Rattle.reader.specs.Raw.{rawBytes, rawAnswer, rawBuffer, rawExactly, rawExactlyBuffer, rawPlace}
 use Rattle.reader.proofs.Strings.{start-within, string-length}
 
 module _ (s : List ℕ) (place : ℕ) (buffer : List ℕ) where
@@ -46,3 +47,19 @@ module _ (way : Way) (s : List ℕ) (place : ℕ) (buffer : List ℕ) where
   pub exactly-whole : startOf s place + length buffer ≤ length s → (rawExactly way s place buffer ≡ rawAnswer s place buffer) × (rawExactlyBuffer way s place buffer ≡ rawBuffer s place buffer)
   unfolding rawExactly rawExactlyBuffer
   exactly-whole h = (simp (le-ltb (length s) (startOf s place + length buffer) h, and-false), simp (le-ltb (length s) (startOf s place + length buffer) h, and-false))
+
+-- The place never falls and never passes the end.
+pub raw-forward : (s : List ℕ) (place : ℕ) (buffer : List ℕ) → (startOf s place ≤ rawPlace (rawAnswer s place buffer)) × (rawPlace (rawAnswer s place buffer) ≤ length s)
+unfolding rawAnswer
+raw-forward s place buffer =
+    let w = start-within s place in
+    let l : length (rawBytes s place buffer) ≤ length s - startOf s place = rw (length-take, length-drop) (omega arith) in
+    (omega arith, omega arith)
+
+exactly-by : (way : Way) (s : List ℕ) (place : ℕ) (buffer : List ℕ) (t u : Bool) → exact way ≡ t → ltb (length s) (startOf s place + length buffer) ≡ u → (startOf s place ≤ rawPlace (rawExactly way s place buffer)) × (rawPlace (rawExactly way s place buffer) ≤ length s)
+exactly-by way s place buffer false u e d = rw (exactly-filled way s place buffer e .0) (raw-forward s place buffer)
+exactly-by way s place buffer true true e d = let w = start-within s place in rw (exactly-eof way s place buffer e (ltb-true _ _ d) .0) (w, omega arith)
+exactly-by way s place buffer true false e d = rw (exactly-whole way s place buffer (ltb-false _ _ d) .0) (raw-forward s place buffer)
+
+pub exactly-forward : (way : Way) (s : List ℕ) (place : ℕ) (buffer : List ℕ) → (startOf s place ≤ rawPlace (rawExactly way s place buffer)) × (rawPlace (rawExactly way s place buffer) ≤ length s)
+exactly-forward way s place buffer = exactly-by way s place buffer (exact way) (ltb (length s) (startOf s place + length buffer)) refl refl

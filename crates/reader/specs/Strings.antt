@@ -70,3 +70,20 @@ abbrev pub stringScratch : Way → List ℕ → ℕ → ℕ → List ℕ → Lis
 stringScratch W.Filled s place n scratch = scratch
 stringScratch W.ExactLent s place n scratch = scratch
 stringScratch W.ExactCopied s place n scratch = copiedScratch s place n scratch
+
+-- the mark of a string that starts there and is so long
+abbrev pub stringMark : Way → ℕ → ℕ → Mark
+stringMark W.Filled start n = lentMark start n
+stringMark W.ExactLent start n = lentMark start n
+stringMark W.ExactCopied start n = copiedMark n
+
+-- the bytes of scratch that a string of that length takes
+abbrev pub scratchNeeded : Way → ℕ → ℕ
+scratchNeeded W.Filled n = 0
+scratchNeeded W.ExactLent n = 0
+scratchNeeded W.ExactCopied n = n
+
+-- the place after a string read
+abbrev pub stringPlace : BytesAnswer → ℕ
+stringPlace (B.Read p m) = p .0
+stringPlace (B.Refused p r) = p .0

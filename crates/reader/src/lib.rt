@@ -128,7 +128,7 @@ pub fn read(source: &[u8], place: Place, buffer: &mut [u8]) -> RawAnswer
     return RawAnswer::Read(Place(end), left);
 }
 
-// Fills the whole buffer, as `SliceReader` and `IoReader` do: filled reading takes what is left, exact reading refuses.
+// Fills the whole buffer. Where fewer bytes are left, filled reading takes these, and exact reading refuses.
 pub fn read_exact(source: &[u8], place: Place, buffer: &mut [u8], way: Way) -> RawAnswer
     ensures { λ r. ⌜ r ≡ rawExactly way (now (source .entry)) (place .0) (now (buffer .entry)) ⌝ }
     ensures { λ r. ⌜ now (buffer .exit) ≡ rawExactlyBuffer way (now (source .entry)) (place .0) (now (buffer .entry)) ⌝ }
@@ -136,11 +136,11 @@ pub fn read_exact(source: &[u8], place: Place, buffer: &mut [u8], way: Way) -> R
     let end = source.len();
     let at = place.within(end);
     let left = end - at;
-    if left < buffer.len() {
-        if way.is_exact() {
-            return RawAnswer::Refused(Place(end), Refusal::Eof);
-        }
+    if buffer.len() <= left {
         return read(source, place, buffer);
+    }
+    if way.is_exact() {
+        return RawAnswer::Refused(Place(end), Refusal::Eof);
     }
     return read(source, place, buffer);
 }

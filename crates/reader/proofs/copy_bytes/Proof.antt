@@ -1,59 +1,63 @@
+-- `reader::copy_bytes` meets its contract, by the laws of the start that `Place::within` gives and what `copy_in` ensures.
+use denote.Ref.{now}
+use native.Mathlib.Omega.{arith}
 use borrow.Author.Needs.{needs}
+use Rattle.reader.proofs.Starts.{at-within, ends-within, copied-taken, copied-refused, copied-ended}
 use Rattle.reader.proofs.copy_bytes.Statement.{statement}
 use Rattle.reader.proofs.copy_bytes.Tie as tie
-use Rattle.reader.proofs.copy_bytes.Reads as reads
-use Rattle.reader.proofs.copy_bytes.Lts as lts
-use Rattle.lent.proofs.copy_in.Reads as copy-in-reads
-use Rattle.types.proofs.Place.within.Reads as within-reads
-use Rattle.types.proofs.Refusal.no_room.Reads as no-room-reads
 
--- src/lib.rt:71:9
 within-requires : tie.Need-within-requires
 within-requires c κs = search needs
 
--- src/lib.rt:72:17
 sub-left : tie.Need-sub-left
-sub-left c = ?
+sub-left c =
+    let a = c .before .before .before .args in
+    at-within (now (a .source)) (a .place .0) (c .within .result) (c .within .ensures)
 
--- src/lib.rt:76:24
 add-next : tie.Need-add-next
 add-next c = search needs
 
--- src/lib.rt:77:36
 sub-copy-in : tie.Need-sub-copy-in
 sub-copy-in c = search needs
 
--- src/lib.rt:77:36
 part-copy-in-start : tie.Need-part-copy-in-start
 part-copy-in-start c = search needs
 
--- src/lib.rt:77:36
 part-copy-in-end : tie.Need-part-copy-in-end
-part-copy-in-end c = ?
+part-copy-in-end c =
+    let a = c .before .before .before .before .before .before .args in
+    let w = c .before .before .before .within in
+    let h = at-within (now (a .source)) (a .place .0) (w .result) (w .ensures) in
+    omega arith
 
--- src/lib.rt:77:13
 copy-in-requires : tie.Need-copy-in-requires
 copy-in-requires c κs = search needs
 
--- src/lib.rt:78:13
 same-length : tie.Need-same-length
 same-length c = search needs
 
--- src/lib.rt:78:13
 returns : tie.Need-returns
-returns c = ?
+returns c =
+    let i = c .before .before .before .before .before in
+    let a = i .before .before .before .before .before .args in
+    let w = i .before .before .within in
+    copied-taken (now (a .source)) (a .place .0) (w .result) (w .ensures) (a .length) (now (a .scratch)) (c .before .before .copy-in .last .0) (i .before .if1 .taken) (i .if2 .taken) (c .before .before .copy-in .ensures)
 
--- src/lib.rt:87:48
 no-room-requires : tie.Need-no-room-requires
 no-room-requires c κs = search needs
 
--- src/lib.rt:87:9
 returns-2 : tie.Need-returns-2
-returns-2 c = ?
+returns-2 c =
+    let i = c .before in
+    let a = i .before .before .before .before .before .args in
+    let w = i .before .before .within in
+    copied-refused (now (a .source)) (a .place .0) (w .result) (w .ensures) (a .length) (now (a .scratch)) (c .no-room .result) (i .before .if1 .taken) (i .if2 .left) (c .no-room .ensures)
 
--- src/lib.rt:89:5
 returns-3 : tie.Need-returns-3
-returns-3 c = ?
+returns-3 c =
+    let a = c .before .before .before .before .args in
+    let w = c .before .within in
+    copied-ended (now (a .source)) (a .place .0) (w .result) (w .ensures) (a .length) (now (a .scratch)) (c .if1 .left)
 
 pub copy-bytes-spec : {M : Type 1} → statement M
 copy-bytes-spec =

@@ -1,51 +1,61 @@
+-- `reader::read_exact` meets its contract: the room is judged first, and the way only where bytes are short.
+use mathlib.Core.Path.{_∙_, sym}
+use denote.Ref.{now}
+use lib.ListN.{length}
 use borrow.Author.Needs.{needs}
+use Rattle.reader.proofs.Starts.{at-within, ends-within, ends-past}
+use Rattle.reader.proofs.Raw.{exactly-eof, exactly-filled, exactly-whole}
 use Rattle.reader.proofs.read_exact.Statement.{statement}
 use Rattle.reader.proofs.read_exact.Tie as tie
-use Rattle.reader.proofs.read_exact.Reads as reads
-use Rattle.reader.proofs.read_exact.Lts as lts
-use Rattle.reader.proofs.read.Reads as read-reads
-use Rattle.types.proofs.Place.within.Reads as within-reads
-use Rattle.types.proofs.Way.is_exact.Reads as is-exact-reads
 
--- src/lib.rt:137:9
 within-requires : tie.Need-within-requires
 within-requires c κs = search needs
 
--- src/lib.rt:138:16
 sub-left : tie.Need-sub-left
-sub-left c = ?
+sub-left c =
+    let a = c .before .before .before .args in
+    at-within (now (a .source)) (a .place .0) (c .within .result) (c .within .ensures)
 
--- src/lib.rt:140:12
-is-exact-requires : tie.Need-is-exact-requires
-is-exact-requires c κs = search needs
-
--- src/lib.rt:141:13
-returns : tie.Need-returns
-returns c = ?
-
--- src/lib.rt:143:9
 read-requires : tie.Need-read-requires
 read-requires c κs = search needs
 
--- src/lib.rt:143:9
 same-length : tie.Need-same-length
 same-length c = search needs
 
--- src/lib.rt:143:9
-returns-2 : tie.Need-returns-2
-returns-2 c = ?
+returns : tie.Need-returns
+returns c =
+    let i = c .before .before .before .before in
+    let a = i .before .before .before .before .args in
+    let w = i .before .within in
+    let r = c .before .before .read .ensures in
+    let whole = ends-within (now (a .source)) (a .place .0) (w .result) (w .ensures) (length (now (a .buffer))) (i .if1 .taken) in
+    let l = exactly-whole (a .way) (now (a .source)) (a .place .0) (now (a .buffer)) whole in
+    (r .0 ∙ sym (l .0), r .1 ∙ sym (l .1))
 
--- src/lib.rt:145:5
+is-exact-requires : tie.Need-is-exact-requires
+is-exact-requires c κs = search needs
+
+returns-2 : tie.Need-returns-2
+returns-2 c =
+    let a = c .before .before .before .before .before .before .args in
+    let w = c .before .before .before .within in
+    let past = ends-past (now (a .source)) (a .place .0) (w .result) (w .ensures) (length (now (a .buffer))) (c .before .before .if1 .left) in
+    let l = exactly-eof (a .way) (now (a .source)) (a .place .0) (now (a .buffer)) (sym (c .before .is-exact .ensures) ∙ c .if2 .taken) past in
+    (sym (l .0), sym (l .1))
+
 read-requires-2 : tie.Need-read-requires-2
 read-requires-2 c κs = search needs
 
--- src/lib.rt:145:5
 same-length-2 : tie.Need-same-length-2
 same-length-2 c = search needs
 
--- src/lib.rt:145:5
 returns-3 : tie.Need-returns-3
-returns-3 c = ?
+returns-3 c =
+    let i = c .before .before .before .before in
+    let a = i .before .before .before .before .before .before .args in
+    let r = c .before .before .read2 .ensures in
+    let l = exactly-filled (a .way) (now (a .source)) (a .place .0) (now (a .buffer)) (sym (i .before .is-exact .ensures) ∙ i .if2 .left) in
+    (r .0 ∙ sym (l .0), r .1 ∙ sym (l .1))
 
 pub read-exact-spec : {M : Type 1} → statement M
 read-exact-spec =
@@ -53,10 +63,10 @@ read-exact-spec =
     (tie.spec
     within-requires
     sub-left
-    is-exact-requires
-    returns
     read-requires
     same-length
+    returns
+    is-exact-requires
     returns-2
     read-requires-2
     same-length-2
