@@ -14,7 +14,6 @@ use Rattle.types.specs.declared.Mark.{Mark}
 use Rattle.types.specs.declared.Place.{Place}
 use Rattle.types.specs.declared.Way.{Way}
 use Rattle.types.specs.declared.Way.the-variants as W
-use Rattle.types.specs.declared.BytesAnswer.{BytesAnswer}
 use Rattle.types.specs.declared.BytesAnswer.the-variants as B
 use Rattle.reader.specs.Parts.{markedBytes, partOf}
 use Rattle.reader.specs.Strings.{startOf, stringOf, stringEof, stringRead, lentMark, copiedMark, copiedScratch, stringAnswer, stringScratch, stringMark, scratchNeeded, stringPlace}

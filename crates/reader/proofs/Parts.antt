@@ -2,11 +2,10 @@
 use mathlib.Core.Path.{_≡_, refl}
 use mathlib.Core.Bool.{true, false}
 use mathlib.Core.List.{List, []}
-use Prim.Native.Nat.{ℕ, _+_, _-_, _≤_, _<_}
+use Prim.Native.Nat.{ℕ, _+_, _≤_, _<_}
 use lib.ListN.{length, take, drop}
 use lib.Seq.{drop-length, take-nil}
 use borrow.Author.Tests.{le-ltb, lt-ltb}
-use Rattle.types.specs.declared.Mark.{Mark}
 use Rattle.reader.specs.Parts.{partOf, pointerOf, markedBytes}
 
 -- what is taken at the end of a list is empty

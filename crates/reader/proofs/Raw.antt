@@ -1,19 +1,18 @@
 -- The laws of the raw byte read: the buffer filled, or what was left of the source.
-use mathlib.Core.Path.{_≡_, refl, _∙_, sym, ap}
+use mathlib.Core.Path.{_≡_, refl, _∙_, ap}
 use mathlib.Core.Bool.{Bool, true, false, and-false}
-use mathlib.Core.List.{List, _++_}
+use mathlib.Core.List.{List}
 use Prim.Native.Nat.{ℕ, _+_, _-_, _≤_, _<_}
-use native.Mathlib.Nat.{add-sub-cancel-left}
 use native.Mathlib.Omega.{arith}
 use lib.Dec.{ltb}
-use lib.ListN.{length, take, drop, length-take, length-drop}
+use lib.ListN.{length, drop, length-take, length-drop}
 use lib.Seq.{take-all}
 use borrow.Author.Tests.{le-ltb, lt-ltb, ltb-true, ltb-false}
 use Rattle.types.specs.Ways.{exact}
 use Rattle.types.specs.declared.Way.{Way}
 use Rattle.types.specs.declared.Refusal.the-variants as R
 use Rattle.types.specs.declared.RawAnswer.the-variants as RA
-use Rattle.reader.specs.Strings.{startOf, stringOf}
+use Rattle.reader.specs.Strings.{startOf}
 use Rattle.reader.specs.Raw.{rawBytes, rawAnswer, rawBuffer, rawExactly, rawExactlyBuffer, rawPlace}
 use Rattle.reader.proofs.Strings.{start-within, string-length}
 

@@ -1,6 +1,6 @@
 -- What the code of the reads computes is what the definitions say. Each law is over the start `at` that the code got from
 -- `Place::within`; the code subtracts it from the length, where the definitions add.
-use mathlib.Core.Path.{_≡_, refl, _∙_, sym, ap}
+use mathlib.Core.Path.{_≡_, _∙_, sym, ap}
 use mathlib.Core.List.{List, _++_}
 use Prim.Native.Nat.{ℕ, _+_, _-_, _≤_, _<_}
 use native.Mathlib.Nat.{add-sub-cancel-left}
@@ -12,7 +12,7 @@ use Rattle.types.specs.declared.Refusal.{Refusal}
 use Rattle.types.specs.declared.BytesAnswer.the-variants as B
 use Rattle.types.specs.declared.RawAnswer.the-variants as RA
 use Rattle.reader.specs.Strings.{startOf, stringOf, stringEof, lentMark, copiedMark, lentString, copiedString, copiedScratch}
-use Rattle.reader.specs.Raw.{rawBytes, rawAnswer, rawBuffer}
+use Rattle.reader.specs.Raw.{rawAnswer, rawBuffer}
 use Rattle.reader.proofs.Strings.{start-within, string-length, lent-read, lent-eof, copied-read, copied-no-room, copied-eof, scratch-read, scratch-no-room, scratch-eof}
 use Rattle.reader.proofs.Raw.{raw-left, raw-read, raw-short}
 

@@ -1,21 +1,18 @@
 -- The laws of the string read that every caller cites: when it is taken or refused, and what it delivers.
-use mathlib.Core.Path.{_≡_, refl, _∙_, sym, ap}
+use mathlib.Core.Path.{_≡_, refl, _∙_, ap}
 use mathlib.Core.Bool.{Bool, true, false}
-use mathlib.Core.List.{List, [], _∷_, _++_, append-assoc}
-use Prim.Native.Nat.{ℕ, _+_, _-_, _≤_, _<_}
+use mathlib.Core.List.{List, _++_}
+use Prim.Native.Nat.{ℕ, _+_, _≤_, _<_}
 use native.Mathlib.Omega.{arith}
 use lib.Dec.{ltb}
-use lib.ListN.{length, take, drop, length-append, length-take, length-drop}
-use lib.Seq.{length-take-le, take-append-seam, drop-append-seam}
-use borrow.Author.Tests.{le-ltb, lt-ltb, ltb-true, ltb-false}
+use lib.ListN.{length, drop, length-drop}
+use lib.Seq.{length-take-le}
+use borrow.Author.Tests.{le-ltb, lt-ltb, ltb-false}
 use Rattle.types.specs.Choice.{pick}
-use Rattle.types.specs.Counters.{placeIn}
 use Rattle.types.specs.Refusals.{noRoom}
-use Rattle.types.specs.declared.Refusal.the-variants as R
 use Rattle.types.specs.declared.BytesAnswer.the-variants as B
-use Rattle.lent.specs.Lent.{writtenContent}
 use Rattle.lent.proofs.Stores.{content-room, content-short}
-use Rattle.reader.specs.Strings.{startOf, stringOf, runsOut, stringEof, lentMark, copiedMark, stringRead, lentString, copiedString, copiedScratch}
+use Rattle.reader.specs.Strings.{startOf, stringOf, stringEof, lentMark, copiedMark, stringRead, lentString, copiedString, copiedScratch}
 
 -- a place is within the source
 place-within : (n p : ℕ) (t : Bool) → ltb n p ≡ t → pick t n p ≤ n

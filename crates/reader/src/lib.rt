@@ -47,8 +47,7 @@ pub fn lend_bytes(source: &[u8], place: Place, length: u64) -> BytesAnswer
 {
     let end = source.len();
     let at = place.within(end);
-    let left = (end - at) as u64;
-    if length <= left {
+    if length <= (end - at) as u64 {
         let count = length as usize;
         return BytesAnswer::Read(
             Place(at + count),
@@ -70,23 +69,23 @@ pub fn copy_bytes(source: &[u8], place: Place, length: u64, scratch: &mut [u8]) 
     let end = source.len();
     let at = place.within(end);
     let left = (end - at) as u64;
-    if length <= left {
-        let count = length as usize;
-        if count <= scratch.len() {
-            let next = at + count;
-            lent::copy_in(scratch, &source[at..next]);
-            return BytesAnswer::Read(
-                Place(next),
-                Mark {
-                    start: 0,
-                    len: count,
-                    lent: false,
-                },
-            );
-        }
+    if left < length {
+        return BytesAnswer::Refused(Place(end), Refusal::Eof);
+    }
+    let count = length as usize;
+    if scratch.len() < count {
         return BytesAnswer::Refused(Place(at), Refusal::no_room(count));
     }
-    return BytesAnswer::Refused(Place(end), Refusal::Eof);
+    let next = at + count;
+    lent::copy_in(scratch, &source[at..next]);
+    return BytesAnswer::Read(
+        Place(next),
+        Mark {
+            start: 0,
+            len: count,
+            lent: false,
+        },
+    );
 }
 
 // Reads exactly `length` bytes, lent or copied as the way says.

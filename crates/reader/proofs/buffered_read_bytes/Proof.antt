@@ -1,5 +1,5 @@
 -- `reader::buffered_read_bytes` meets its contract: each way by what the read that it chooses ensures.
-use mathlib.Core.Path.{_≡_, refl, _∙_, ap}
+use mathlib.Core.Path.{_≡_, refl, _∙_}
 use mathlib.Core.List.{List, [], _∷_}
 use Prim.Native.Nat.{ℕ}
 use types.Run.{OneOf, miss}

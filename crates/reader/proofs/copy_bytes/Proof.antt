@@ -2,7 +2,7 @@
 use denote.Ref.{now}
 use native.Mathlib.Omega.{arith}
 use borrow.Author.Needs.{needs}
-use Rattle.reader.proofs.Starts.{at-within, ends-within, copied-taken, copied-refused, copied-ended}
+use Rattle.reader.proofs.Starts.{at-within, copied-taken, copied-refused, copied-ended}
 use Rattle.reader.proofs.copy_bytes.Statement.{statement}
 use Rattle.reader.proofs.copy_bytes.Tie as tie
 
@@ -13,6 +13,21 @@ sub-left : tie.Need-sub-left
 sub-left c =
     let a = c .before .before .before .args in
     at-within (now (a .source)) (a .place .0) (c .within .result) (c .within .ensures)
+
+returns : tie.Need-returns
+returns c =
+    let a = c .before .before .before .before .args in
+    let w = c .before .within in
+    copied-ended (now (a .source)) (a .place .0) (w .result) (w .ensures) (a .length) (now (a .scratch)) (omega arith)
+
+no-room-requires : tie.Need-no-room-requires
+no-room-requires c κs = search needs
+
+returns-2 : tie.Need-returns-2
+returns-2 c =
+    let a = c .before .before .before .before .before .before .args in
+    let w = c .before .before .before .within in
+    copied-refused (now (a .source)) (a .place .0) (w .result) (w .ensures) (a .length) (now (a .scratch)) (c .no-room .result) (omega arith) (omega arith) (c .no-room .ensures)
 
 add-next : tie.Need-add-next
 add-next c = search needs
@@ -36,28 +51,13 @@ copy-in-requires c κs = search needs
 same-length : tie.Need-same-length
 same-length c = search needs
 
-returns : tie.Need-returns
-returns c =
+returns-3 : tie.Need-returns-3
+returns-3 c =
     let i = c .before .before .before .before .before in
     let a = i .before .before .before .before .before .args in
     let w = i .before .before .within in
-    copied-taken (now (a .source)) (a .place .0) (w .result) (w .ensures) (a .length) (now (a .scratch)) (c .before .before .copy-in .last .0) (i .before .if1 .taken) (i .if2 .taken) (c .before .before .copy-in .ensures)
-
-no-room-requires : tie.Need-no-room-requires
-no-room-requires c κs = search needs
-
-returns-2 : tie.Need-returns-2
-returns-2 c =
-    let i = c .before in
-    let a = i .before .before .before .before .before .args in
-    let w = i .before .before .within in
-    copied-refused (now (a .source)) (a .place .0) (w .result) (w .ensures) (a .length) (now (a .scratch)) (c .no-room .result) (i .before .if1 .taken) (i .if2 .left) (c .no-room .ensures)
-
-returns-3 : tie.Need-returns-3
-returns-3 c =
-    let a = c .before .before .before .before .args in
-    let w = c .before .within in
-    copied-ended (now (a .source)) (a .place .0) (w .result) (w .ensures) (a .length) (now (a .scratch)) (c .if1 .left)
+    let f = c .before .before .copy-in in
+    copied-taken (now (a .source)) (a .place .0) (w .result) (w .ensures) (a .length) (now (a .scratch)) (f .last .0) (omega arith) (omega arith) (f .ensures)
 
 pub copy-bytes-spec : {M : Type 1} → statement M
 copy-bytes-spec =
@@ -65,13 +65,13 @@ copy-bytes-spec =
     (tie.spec
     within-requires
     sub-left
+    returns
+    no-room-requires
+    returns-2
     add-next
     sub-copy-in
     part-copy-in-start
     part-copy-in-end
     copy-in-requires
     same-length
-    returns
-    no-room-requires
-    returns-2
     returns-3)

@@ -9,8 +9,10 @@ use Rattle.reader.proofs.lend_bytes.Tie as tie
 within-requires : tie.Need-within-requires
 within-requires c κs = search needs
 
-sub-left : tie.Need-sub-left
-sub-left c = let a = c .before .before .args in at-within (now (a .source)) (a .place .0) (c .within .result) (c .within .ensures)
+sub-if1 : tie.Need-sub-if1
+sub-if1 c =
+    let a = c .before .before .args in
+    at-within (now (a .source)) (a .place .0) (c .within .result) (c .within .ensures)
 
 add-t10 : tie.Need-add-t10
 add-t10 c = search needs
@@ -19,13 +21,13 @@ returns : tie.Need-returns
 returns c =
     let a = c .before .before .before .args in
     let w = c .before .within in
-    lent-taken (now (a .source)) (a .place .0) (w .result) (w .ensures) (a .length) (c .if1 .taken)
+    lent-taken (now (a .source)) (a .place .0) (w .result) (w .ensures) (a .length) (omega arith)
 
 returns-2 : tie.Need-returns-2
 returns-2 c =
     let a = c .before .before .before .args in
     let w = c .before .within in
-    lent-ended (now (a .source)) (a .place .0) (w .result) (w .ensures) (a .length) (c .if1 .left)
+    lent-ended (now (a .source)) (a .place .0) (w .result) (w .ensures) (a .length) (omega arith)
 
 pub lend-bytes-spec : {M : Type 1} → statement M
-lend-bytes-spec = tie.close (tie.spec within-requires sub-left add-t10 returns returns-2)
+lend-bytes-spec = tie.close (tie.spec within-requires sub-if1 add-t10 returns returns-2)

@@ -41,7 +41,7 @@ returns c =
     let i = c .before .before .before .before .before in
     let a = i .before .before .before .before .args in
     let w = i .before .within in
-    raw-taken (now (a .source)) (a .place .0) (w .result) (w .ensures) (now (a .buffer)) (c .before .before .copy-in .last .0) (i .if1 .taken) (c .before .before .copy-in .ensures)
+    raw-taken (now (a .source)) (a .place .0) (w .result) (w .ensures) (now (a .buffer)) (c .before .before .copy-in .last .0) (omega arith) (c .before .before .copy-in .ensures)
 
 sub-copy-in-2 : tie.Need-sub-copy-in-2
 sub-copy-in-2 c =
@@ -71,7 +71,7 @@ returns-2 c =
     let i = c .before .before .before .before .before in
     let a = i .before .before .before .before .args in
     let w = i .before .within in
-    raw-ended (now (a .source)) (a .place .0) (w .result) (w .ensures) (now (a .buffer)) (c .before .before .copy-in2 .last .0) (i .if1 .left) (c .before .before .copy-in2 .ensures)
+    raw-ended (now (a .source)) (a .place .0) (w .result) (w .ensures) (now (a .buffer)) (c .before .before .copy-in2 .last .0) (omega arith) (c .before .before .copy-in2 .ensures)
 
 pub read-spec : {M : Type 1} → statement M
 read-spec =
