@@ -3,6 +3,7 @@
 use Prim.Native.Nat.{ℕ}
 use mathlib.Core.List.{List, [], _∷_, _++_, map}
 use lib.IntN.{ℤ, pos}
+use Rattle.types.specs.Choice.{pick}
 use Rattle.types.specs.Kinds.{kindCode, specialCode}
 use Rattle.types.specs.Refusals.{refusalNumber, refusalData}
 use Rattle.types.specs.declared.Wide.{Wide}
@@ -17,6 +18,10 @@ use Rattle.types.specs.declared.HeaderAnswer.{HeaderAnswer}
 use Rattle.types.specs.declared.HeaderAnswer.the-variants as H
 use Rattle.types.specs.declared.VersionAnswer.{VersionAnswer}
 use Rattle.types.specs.declared.VersionAnswer.the-variants as VA
+use Rattle.types.specs.declared.BytesAnswer.{BytesAnswer}
+use Rattle.types.specs.declared.BytesAnswer.the-variants as BA
+use Rattle.types.specs.declared.RawAnswer.{RawAnswer}
+use Rattle.types.specs.declared.RawAnswer.the-variants as RA
 
 -- the number, and the values in the order of the answer's fields
 pub record Told : Type 0 where
@@ -50,3 +55,12 @@ toldHeader (H.Refused p r) = refused (pos (p .0) ∷ []) r
 abbrev pub toldVersion : VersionAnswer → Told
 toldVersion (VA.Read p v) = taken (pos (p .0) ∷ pos v ∷ [])
 toldVersion (VA.Refused p r) = refused (pos (p .0) ∷ []) r
+
+-- a delivery mark as its start, its length, and 1 if lent, 0 if copied
+abbrev pub toldBytes : BytesAnswer → Told
+toldBytes (BA.Read p m) = taken (pos (p .0) ∷ pos (m .start) ∷ pos (m .len) ∷ pos (pick (m .lent) 1 0) ∷ [])
+toldBytes (BA.Refused p r) = refused (pos (p .0) ∷ []) r
+
+abbrev pub toldRaw : RawAnswer → Told
+toldRaw (RA.Read p n) = taken (pos (p .0) ∷ pos n ∷ [])
+toldRaw (RA.Refused p r) = refused (pos (p .0) ∷ []) r

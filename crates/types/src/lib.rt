@@ -171,6 +171,12 @@ pub enum BytesAnswer {
     Refused(Place, Refusal),
 }
 
+// What a raw read into a lent buffer answers: how many bytes of the buffer it filled.
+pub enum RawAnswer {
+    Read(Place, usize),
+    Refused(Place, Refusal),
+}
+
 pub enum AtomAnswer {
     Read(Place, Budget, Atom),
     Refused(Place, Budget, Refusal),

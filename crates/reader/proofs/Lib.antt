@@ -1,0 +1,6 @@
+pub mod Strings
+pub mod Raw
+pub mod Parts
+pub mod Starts
+pub mod Delivered
+pub mod One
