@@ -1,0 +1,5 @@
+pub mod Width
+pub mod At
+pub mod Two
+pub mod Shortest
+pub mod Stores
