@@ -3,8 +3,9 @@ use mathlib.Core.Path.{_≡_, refl, _∙_, sym, ap}
 use mathlib.Core.List.{List, [], _∷_, _++_}
 use Prim.Native.Nat.{ℕ, zero, suc, _+_, _-_, _*_, _/_, _%_, _^_, _<_, _≤_}
 use native.Mathlib.Omega.{arith}
-use native.Mathlib.Nat.{zero-add, suc-add, pow-suc, pow-succ', div-one, div-eq-of-lt, mod-eq-of-lt, add-mul-div-left, add-mul-mod-self-left, div-div-eq-div-mul}
+use native.Mathlib.Nat.{zero-add, suc-add, pow-suc, pow-succ', mul-assoc, div-one, div-eq-of-lt, mod-eq-of-lt, add-mul-div-left, add-mul-mod-self-left, div-div-eq-div-mul}
 use lib.Arith.{mod-mul}
+use lib.Pow.{pow-add}
 use lib.Dec.{lit<}
 use lib.ListN.{length, getD, length-append}
 use Rattle.little.specs.Le.{fromLE, toLE}
@@ -81,6 +82,13 @@ to-words n m low high h =
     let above : (low + 256 ^ n * high) / 256 ^ n ≡ high = add-mul-div-left low high {y = 256 ^ n} (byte-pow-pos n) ∙ ap (λ (q : ℕ). q + high) (div-eq-of-lt h) ∙ zero-add high in
     rw (to-add n m, above, to-same n (low + 256 ^ n * high) low (add-mul-mod-self-left low (256 ^ n) high))
 
+-- the low word alone holds the lowest bytes
+pub to-low : (n m low high : ℕ) → n ≤ m → toLE n (low + 256 ^ m * high) ≡ toLE n low
+to-low n m low high h =
+    let e : n + (m - n) ≡ m = omega arith in
+    let parts : 256 ^ m ≡ 256 ^ n * 256 ^ (m - n) = ap (λ (k : ℕ). 256 ^ k) (sym e) ∙ pow-add 256 n (m - n) in
+    to-same n (low + 256 ^ m * high) low (rw (parts, mul-assoc) (add-mul-mod-self-left low (256 ^ n) (256 ^ (m - n) * high)))
+
 -- straight-line code: the bytes of v from byte i on, each by one quotient and one remainder
 abbrev pub spread : ℕ → ℕ → ℕ → List ℕ
 spread zero v i = []
@@ -95,12 +103,6 @@ pub to-spread : (n v : ℕ) → v % 256 ∷ spread n v 1 ≡ toLE (suc n) v
 unfolding toLE
 to-spread n v = rw (spread-to n v 1)
 
--- two words, byte by byte
-abbrev pub words : ℕ → ℕ → ℕ → ℕ → List ℕ
-words n m low high = (low % 256 ∷ spread n low 1) ++ (high % 256 ∷ spread m high 1)
-
+-- so many bytes of two words
 pub words-length : (n m low high : ℕ) → length (toLE n low ++ toLE m high) ≡ n + m
 words-length n m low high = rw (length-append (toLE n low) (toLE m high), to-length n low, to-length m high)
-
-pub to-words-spread : (n m low high : ℕ) → words n m low high ≡ toLE (suc n) low ++ toLE (suc m) high
-to-words-spread n m low high = rw (← to-spread n low, ← to-spread m high)

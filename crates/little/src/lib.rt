@@ -316,15 +316,7 @@ pub fn put16(out: &mut [u8], first: u8, low: u64, high: u64) -> Written
     if out.len() < 17 {
         return Written::Refused(Refusal::no_room(17));
     }
-    out[0] = first;
-    out[1] = (low % 0x100) as u8;
-    out[2] = (low / 0x100 % 0x100) as u8;
-    out[3] = (low / 0x1_0000 % 0x100) as u8;
-    out[4] = (low / 0x100_0000 % 0x100) as u8;
-    out[5] = (low / 0x1_0000_0000 % 0x100) as u8;
-    out[6] = (low / 0x100_0000_0000 % 0x100) as u8;
-    out[7] = (low / 0x1_0000_0000_0000 % 0x100) as u8;
-    out[8] = (low / 0x100_0000_0000_0000 % 0x100) as u8;
+    put8(out, first, low);
     out[9] = (high % 0x100) as u8;
     out[10] = (high / 0x100 % 0x100) as u8;
     out[11] = (high / 0x1_0000 % 0x100) as u8;
