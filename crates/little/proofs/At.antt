@@ -1,13 +1,13 @@
 -- The number of the bytes at a place, over the byte count: byte by byte, in two parts, and where its bytes stand.
-use mathlib.Core.Path.{_≡_, refl, _∙_, sym, ap}
+use mathlib.Core.Path.{_≡_, refl, _∙_, ap}
 use mathlib.Core.Bool.{Bool, true, false}
-use mathlib.Core.List.{List, [], _∷_, _++_}
+use mathlib.Core.List.{List, _++_}
 use Prim.Native.Nat.{ℕ, zero, suc, _+_, _-_, _*_, _%_, _^_, _<_, _≤_}
 use native.Mathlib.Omega.{arith}
 use native.Mathlib.Numerals.{add-one}
 use native.Mathlib.Nat.{zero-add, add-zero, suc-add, add-suc, mul-assoc, pow-suc, pow-succ', lt-of-lt-of-le, pow-le-pow-right}
 use lib.Dec.{ltb, lit<}
-use lib.ListN.{length, take, drop, getD, drop-of-length-le, length-drop, List·getD-eq-default}
+use lib.ListN.{length, drop, getD, drop-of-length-le, length-drop, List·getD-eq-default}
 use lib.Seq.{drop-cons, take-nil, drop-at, take-append-seam, drop-append-le, take-append-le}
 use borrow.Author.Tests.{ltb-true, ltb-false}
 use Rattle.little.specs.Le.{fromLE, toLE, numberAt}

@@ -1,4 +1,5 @@
 -- `little::bits_of_i64` meets its contract: the value itself, or the complement of what its `!` is.
+use native.Mathlib.Omega.{arith}
 use lib.Dec.{lit≤}
 use mir.Syntax.{w64}
 use Rattle.little.proofs.Two.{pos-cast, pos-bits, neg-cast, neg-bits, neg-room}
@@ -12,7 +13,7 @@ cast-result-2 : tie.Need-cast-result-2
 cast-result-2 c = neg-cast w64 8 w64 (lit≤ tt) (c .before .args .v) (c .before .fits .v) (c .if1 .left)
 
 sub-result : tie.Need-sub-result
-sub-result c = neg-room w64 8 (lit≤ tt) (c .before .args .v) (c .before .fits .v) (c .if1 .left)
+sub-result c = omega (arith, neg-room w64 8 (lit≤ tt) (c .before .args .v) (c .before .fits .v) (c .if1 .left))
 
 returns : tie.Need-returns
 returns c = pos-bits w64 8 (lit≤ tt) (c .before .args .v) (c .before .fits .v) (c .if1 .taken)

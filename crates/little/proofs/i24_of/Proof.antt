@@ -16,10 +16,10 @@ cast-result-2 : tie.Need-cast-result-2
 cast-result-2 c = search needs
 
 returns : tie.Need-returns
-returns c = low-half w32 3 (c .before .args .v) (c .if1 .taken) (omega arith)
+returns c = low-half w32 3 (c .before .args .v) (omega arith) (omega arith)
 
 returns-2 : tie.Need-returns-2
-returns-2 c = high-half w32 3 (c .before .args .v) (c .if1 .left) (omega arith)
+returns-2 c = high-half w32 3 (c .before .args .v) (omega arith) (omega arith)
 
 pub i24-of-spec : {M : Type 1} → statement M
 i24-of-spec = tie.close (tie.spec cast-result sub-result cast-result-2 returns returns-2)

@@ -3,6 +3,7 @@ use mathlib.Core.Path.{_∙_, ap}
 use mathlib.Core.List.{_∷_}
 use Prim.Native.Nat.{_%_}
 use denote.Ref.{now}
+use native.Mathlib.Omega.{arith}
 use Rattle.types.specs.declared.Written.the-variants as W
 use Rattle.little.specs.Le.{toLE}
 use Rattle.little.proofs.Width.{spread, to-length, to-spread}
@@ -17,7 +18,7 @@ no-room-requires c κs = search needs
 returns : tie.Need-returns
 returns c =
     let a = c .before .before .before .args in
-    let s = short (a .first) 1 (toLE 1 (a .v)) (now (a .out)) (to-length 1 (a .v)) (c .before .if1 .taken) in
+    let s = short (a .first) 1 (toLE 1 (a .v)) (now (a .out)) (to-length 1 (a .v)) (omega arith) in
     (ap W.Refused (c .no-room .ensures) ∙ s .0, s .1)
 
 slice-write-out : tie.Need-slice-write-out
@@ -35,7 +36,7 @@ same-length c = search needs
 returns-2 : tie.Need-returns-2
 returns-2 c =
     let a = c .before .before .args in
-    stored (a .first) 1 (toLE 1 (a .v)) (now (a .out)) (to-length 1 (a .v)) (a .v % 256 ∷ spread 0 (a .v) 1) (to-spread 0 (a .v)) (c .if1 .left)
+    stored (a .first) 1 (toLE 1 (a .v)) (now (a .out)) (to-length 1 (a .v)) (a .v % 256 ∷ spread 0 (a .v) 1) (to-spread 0 (a .v)) (omega arith)
 
 pub put1-spec : {M : Type 1} → statement M
 put1-spec =

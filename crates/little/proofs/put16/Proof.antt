@@ -20,7 +20,7 @@ no-room-requires c κs = search needs
 returns : tie.Need-returns
 returns c =
     let a = c .before .before .before .args in
-    let s = short (a .first) 16 (toLE 8 (a .low) ++ toLE 8 (a .high)) (now (a .out)) (words-length 8 8 (a .low) (a .high)) (c .before .if1 .taken) in
+    let s = short (a .first) 16 (toLE 8 (a .low) ++ toLE 8 (a .high)) (now (a .out)) (words-length 8 8 (a .low) (a .high)) (omega arith) in
     (ap W.Refused (c .no-room .ensures) ∙ s .0, s .1)
 
 put8-requires : tie.Need-put8-requires

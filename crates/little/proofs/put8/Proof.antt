@@ -19,7 +19,7 @@ no-room-requires c κs = search needs
 returns : tie.Need-returns
 returns c =
     let a = c .before .before .before .args in
-    let s = short (a .first) 8 (toLE 8 (a .v)) (now (a .out)) (to-length 8 (a .v)) (c .before .if1 .taken) in
+    let s = short (a .first) 8 (toLE 8 (a .v)) (now (a .out)) (to-length 8 (a .v)) (omega arith) in
     (ap W.Refused (c .no-room .ensures) ∙ s .0, s .1)
 
 slice-write-out : tie.Need-slice-write-out
@@ -79,7 +79,7 @@ same-length c = simp length-set
 returns-2 : tie.Need-returns-2
 returns-2 c =
     let a = c .before .before .args in
-    stored (a .first) 8 (toLE 8 (a .v)) (now (a .out)) (to-length 8 (a .v)) (a .v % 256 ∷ spread 7 (a .v) 1) (to-spread 7 (a .v)) (c .if1 .left)
+    stored (a .first) 8 (toLE 8 (a .v)) (now (a .out)) (to-length 8 (a .v)) (a .v % 256 ∷ spread 7 (a .v) 1) (to-spread 7 (a .v)) (omega arith)
 
 pub put8-spec : {M : Type 1} → statement M
 put8-spec =
