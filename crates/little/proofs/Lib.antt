@@ -3,3 +3,4 @@ pub mod At
 pub mod Two
 pub mod Shortest
 pub mod Stores
+pub mod Words

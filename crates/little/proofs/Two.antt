@@ -66,7 +66,7 @@ pub bits-twos : (n v : ℕ) → v < 256 ^ n → twosBits n (twos n v) ≡ v
 bits-twos n v h = bits-twos-at n v (ltb v (256 ^ n / 2)) refl h
 
 -- what is read is held
-even : (n : ℕ) → 0 < n → 256 ^ n / 2 + 256 ^ n / 2 ≡ 256 ^ n
+pub even : (n : ℕ) → 0 < n → 256 ^ n / 2 + 256 ^ n / 2 ≡ 256 ^ n
 even zero h = omega arith
 even (suc n) h = rw (pow-suc 256 n) (omega arith)
 
@@ -84,7 +84,7 @@ bits-lt n (pos k) h = let m : k < 256 ^ n / 2 = held-mag n (pos k) h in omega ar
 bits-lt n (negsuc k) h = omega (arith, byte-pow-pos n)
 
 -- low bytes agree across widths
-wide : (n d : ℕ) → 256 ^ (n + d) ≡ (256 ^ d - 1) * 256 ^ n + 256 ^ n
+pub wide : (n d : ℕ) → 256 ^ (n + d) ≡ (256 ^ d - 1) * 256 ^ n + 256 ^ n
 wide n d =
     let e : 256 ^ d ≡ suc (256 ^ d - 1) = omega (arith, byte-pow-pos d) in
     pow-add 256 n d ∙ ap (λ (x : ℕ). 256 ^ n * x) e ∙ mul-suc (256 ^ n) (256 ^ d - 1) ∙ ap (λ (x : ℕ). x + 256 ^ n) (mul-comm (256 ^ n) (256 ^ d - 1))
