@@ -1,0 +1,6 @@
+pub mod Width
+pub mod At
+pub mod Two
+pub mod Shortest
+pub mod Stores
+pub mod Words

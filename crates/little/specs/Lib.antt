@@ -1,0 +1,3 @@
+pub mod Le
+pub mod Twos
+pub mod Counts
