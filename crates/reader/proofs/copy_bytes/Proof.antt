@@ -12,7 +12,7 @@ within-requires c κs = search needs
 sub-left : tie.Need-sub-left
 sub-left c =
     let a = c .before .before .before .args in
-    at-within (now (a .source)) (a .place .0) (c .within .result) (c .within .ensures)
+    at-within (now (a .source)) (a .place .0) (c .within .result) (c .within .ensures .0)
 
 returns : tie.Need-returns
 returns c =

@@ -12,7 +12,7 @@ within-requires c κs = search needs
 sub-if1 : tie.Need-sub-if1
 sub-if1 c =
     let a = c .before .before .args in
-    at-within (now (a .source)) (a .place .0) (c .within .result) (c .within .ensures)
+    at-within (now (a .source)) (a .place .0) (c .within .result) (c .within .ensures .0)
 
 add-t10 : tie.Need-add-t10
 add-t10 c = search needs
