@@ -18,7 +18,7 @@ returns : tie.Need-returns
 returns c =
     let a = c .before .before .before .before .args in
     let w = c .before .within in
-    copied-ended (now (a .source)) (a .place .0) (w .result) (w .ensures) (a .length) (now (a .scratch)) (omega arith)
+    copied-ended (now (a .source)) (a .place .0) (w .result) (w .ensures .0) (a .length) (now (a .scratch)) (omega arith)
 
 no-room-requires : tie.Need-no-room-requires
 no-room-requires c κs = search needs
@@ -27,7 +27,7 @@ returns-2 : tie.Need-returns-2
 returns-2 c =
     let a = c .before .before .before .before .before .before .args in
     let w = c .before .before .before .within in
-    copied-refused (now (a .source)) (a .place .0) (w .result) (w .ensures) (a .length) (now (a .scratch)) (c .no-room .result) (omega arith) (omega arith) (c .no-room .ensures)
+    copied-refused (now (a .source)) (a .place .0) (w .result) (w .ensures .0) (a .length) (now (a .scratch)) (c .no-room .result) (omega arith) (omega arith) (c .no-room .ensures)
 
 add-next : tie.Need-add-next
 add-next c = search needs
@@ -42,7 +42,7 @@ part-copy-in-end : tie.Need-part-copy-in-end
 part-copy-in-end c =
     let a = c .before .before .before .before .before .before .args in
     let w = c .before .before .before .within in
-    let h = at-within (now (a .source)) (a .place .0) (w .result) (w .ensures) in
+    let h = at-within (now (a .source)) (a .place .0) (w .result) (w .ensures .0) in
     omega arith
 
 copy-in-requires : tie.Need-copy-in-requires
@@ -57,7 +57,7 @@ returns-3 c =
     let a = i .before .before .before .before .before .args in
     let w = i .before .before .within in
     let f = c .before .before .copy-in in
-    copied-taken (now (a .source)) (a .place .0) (w .result) (w .ensures) (a .length) (now (a .scratch)) (f .last .0) (omega arith) (omega arith) (f .ensures)
+    copied-taken (now (a .source)) (a .place .0) (w .result) (w .ensures .0) (a .length) (now (a .scratch)) (f .last .0) (omega arith) (omega arith) (f .ensures)
 
 pub copy-bytes-spec : {M : Type 1} → statement M
 copy-bytes-spec =

@@ -21,13 +21,13 @@ returns : tie.Need-returns
 returns c =
     let a = c .before .before .before .args in
     let w = c .before .within in
-    lent-taken (now (a .source)) (a .place .0) (w .result) (w .ensures) (a .length) (omega arith)
+    lent-taken (now (a .source)) (a .place .0) (w .result) (w .ensures .0) (a .length) (omega arith)
 
 returns-2 : tie.Need-returns-2
 returns-2 c =
     let a = c .before .before .before .args in
     let w = c .before .within in
-    lent-ended (now (a .source)) (a .place .0) (w .result) (w .ensures) (a .length) (omega arith)
+    lent-ended (now (a .source)) (a .place .0) (w .result) (w .ensures .0) (a .length) (omega arith)
 
 pub lend-bytes-spec : {M : Type 1} → statement M
 lend-bytes-spec = tie.close (tie.spec within-requires sub-if1 add-t10 returns returns-2)

@@ -27,7 +27,7 @@ part-copy-in-end : tie.Need-part-copy-in-end
 part-copy-in-end c =
     let a = c .before .before .before .before .before .args in
     let w = c .before .before .within in
-    let h = at-within (now (a .source)) (a .place .0) (w .result) (w .ensures) in
+    let h = at-within (now (a .source)) (a .place .0) (w .result) (w .ensures .0) in
     omega arith
 
 copy-in-requires : tie.Need-copy-in-requires
@@ -41,20 +41,20 @@ returns c =
     let i = c .before .before .before .before .before in
     let a = i .before .before .before .before .args in
     let w = i .before .within in
-    raw-taken (now (a .source)) (a .place .0) (w .result) (w .ensures) (now (a .buffer)) (c .before .before .copy-in .last .0) (omega arith) (c .before .before .copy-in .ensures)
+    raw-taken (now (a .source)) (a .place .0) (w .result) (w .ensures .0) (now (a .buffer)) (c .before .before .copy-in .last .0) (omega arith) (c .before .before .copy-in .ensures)
 
 sub-copy-in-2 : tie.Need-sub-copy-in-2
 sub-copy-in-2 c =
     let a = c .before .before .before .before .before .args in
     let w = c .before .before .within in
-    let h = at-within (now (a .source)) (a .place .0) (w .result) (w .ensures) in
+    let h = at-within (now (a .source)) (a .place .0) (w .result) (w .ensures .0) in
     omega arith
 
 part-copy-in-start-2 : tie.Need-part-copy-in-start-2
 part-copy-in-start-2 c =
     let a = c .before .before .before .before .before .args in
     let w = c .before .before .within in
-    let h = at-within (now (a .source)) (a .place .0) (w .result) (w .ensures) in
+    let h = at-within (now (a .source)) (a .place .0) (w .result) (w .ensures .0) in
     omega arith
 
 part-copy-in-end-2 : tie.Need-part-copy-in-end-2
@@ -71,7 +71,7 @@ returns-2 c =
     let i = c .before .before .before .before .before in
     let a = i .before .before .before .before .args in
     let w = i .before .within in
-    raw-ended (now (a .source)) (a .place .0) (w .result) (w .ensures) (now (a .buffer)) (c .before .before .copy-in2 .last .0) (omega arith) (c .before .before .copy-in2 .ensures)
+    raw-ended (now (a .source)) (a .place .0) (w .result) (w .ensures .0) (now (a .buffer)) (c .before .before .copy-in2 .last .0) (omega arith) (c .before .before .copy-in2 .ensures)
 
 pub read-spec : {M : Type 1} → statement M
 read-spec =

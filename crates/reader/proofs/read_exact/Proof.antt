@@ -29,7 +29,7 @@ returns c =
     let a = i .before .before .before .before .args in
     let w = i .before .within in
     let r = c .before .before .read .ensures in
-    let whole = ends-within (now (a .source)) (a .place .0) (w .result) (w .ensures) (length (now (a .buffer))) (omega arith) in
+    let whole = ends-within (now (a .source)) (a .place .0) (w .result) (w .ensures .0) (length (now (a .buffer))) (omega arith) in
     let l = exactly-whole (a .way) (now (a .source)) (a .place .0) (now (a .buffer)) whole in
     (r .0 ∙ sym (l .0), r .1 ∙ sym (l .1))
 
@@ -40,7 +40,7 @@ returns-2 : tie.Need-returns-2
 returns-2 c =
     let a = c .before .before .before .before .before .before .args in
     let w = c .before .before .before .within in
-    let past = ends-past (now (a .source)) (a .place .0) (w .result) (w .ensures) (length (now (a .buffer))) (omega arith) in
+    let past = ends-past (now (a .source)) (a .place .0) (w .result) (w .ensures .0) (length (now (a .buffer))) (omega arith) in
     let l = exactly-eof (a .way) (now (a .source)) (a .place .0) (now (a .buffer)) (sym (c .before .is-exact .ensures) ∙ c .if2 .taken) past in
     (sym (l .0), sym (l .1))
 
