@@ -3,4 +3,3 @@ pub mod Raw
 pub mod Parts
 pub mod Starts
 pub mod Delivered
-pub mod One

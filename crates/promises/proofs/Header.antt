@@ -1,0 +1,24 @@
+-- One result for each contract of `header`, and one content of each lent buffer.
+use Rattle.header.proofs.read_atom_header as read-atom-header
+use Rattle.header.proofs.read_atom_header.Reads as read-atom-header-reads
+use Rattle.header.proofs.read_header as read-header
+use Rattle.header.proofs.read_header.Reads as read-header-reads
+use Rattle.header.proofs.write_atom_header as write-atom-header
+use Rattle.header.proofs.write_atom_header.Reads as write-atom-header-reads
+use Rattle.header.proofs.write_header as write-header
+use Rattle.header.proofs.write_header.Reads as write-header-reads
+use Rattle.promises.proofs.One.{One}
+use denote.Ref.{now}
+use mathlib.Core.Path.{_≡_, _∙_, sym, refl}
+
+pub write-atom-header-one : One write-atom-header.ended write-atom-header-reads.Post (λ κs s. now (s .0))
+write-atom-header-one κs a r₁ r₂ s₁ s₂ p q = (p .0 ∙ sym (q .0), p .1 ∙ sym (q .1))
+
+pub read-atom-header-one : One read-atom-header.ended read-atom-header-reads.Post (λ κs s. tt {0})
+read-atom-header-one κs a r₁ r₂ s₁ s₂ p q = (p ∙ sym q, refl)
+
+pub write-header-one : One write-header.ended write-header-reads.Post (λ κs s. now (s .0))
+write-header-one κs a r₁ r₂ s₁ s₂ p q = (p .0 ∙ sym (q .0), p .1 ∙ sym (q .1))
+
+pub read-header-one : One read-header.ended read-header-reads.Post (λ κs s. tt {0})
+read-header-one κs a r₁ r₂ s₁ s₂ p q = (p ∙ sym q, refl)

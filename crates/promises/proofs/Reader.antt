@@ -1,0 +1,42 @@
+-- One result for each contract of `reader`, and one content of each lent buffer.
+use Rattle.promises.proofs.One.{One}
+use Rattle.reader.proofs.buffered_read_bytes as buffered-read-bytes
+use Rattle.reader.proofs.buffered_read_bytes.Reads as buffered-read-bytes-reads
+use Rattle.reader.proofs.copy_bytes as copy-bytes
+use Rattle.reader.proofs.copy_bytes.Reads as copy-bytes-reads
+use Rattle.reader.proofs.lend_bytes as lend-bytes
+use Rattle.reader.proofs.lend_bytes.Reads as lend-bytes-reads
+use Rattle.reader.proofs.part as part
+use Rattle.reader.proofs.part.Reads as part-reads
+use Rattle.reader.proofs.read as read
+use Rattle.reader.proofs.read.Reads as read-reads
+use Rattle.reader.proofs.read_exact as read-exact
+use Rattle.reader.proofs.read_exact.Reads as read-exact-reads
+use Rattle.reader.proofs.«as_slice» as as-slice
+use Rattle.reader.proofs.«as_slice».Reads as as-slice-reads
+use borrow.Fn.World.{ArgsD, ResD}
+use contract.Lifetimes.{Lfts}
+use denote.Ref.{now, ptr}
+use denote.Triple.Clauses.{AtExit}
+use mathlib.Core.Path.{_≡_, _∙_, sym, refl}
+
+pub part-one : (κs : Lfts (part.ended .signature .lifetimes)) (a : ArgsD part.signature κs) (r₁ r₂ : ResD part.signature κs) (s₁ s₂ : AtExit part.ended κs) → part-reads.Post κs a r₁ s₁ → part-reads.Post κs a r₂ s₂ → (ptr r₁ ≡ ptr r₂) × (now r₁ ≡ now r₂)
+part-one κs a r₁ r₂ s₁ s₂ p q = (p .1 ∙ sym (q .1), p .0 ∙ sym (q .0))
+
+pub as-slice-one : (κs : Lfts (as-slice.ended .signature .lifetimes)) (a : ArgsD as-slice.signature κs) (r₁ r₂ : ResD as-slice.signature κs) (s₁ s₂ : AtExit as-slice.ended κs) → as-slice-reads.Post κs a r₁ s₁ → as-slice-reads.Post κs a r₂ s₂ → (ptr r₁ ≡ ptr r₂) × (now r₁ ≡ now r₂)
+as-slice-one κs a r₁ r₂ s₁ s₂ p q = (p .1 ∙ sym (q .1), p .0 ∙ sym (q .0))
+
+pub lend-bytes-one : One lend-bytes.ended lend-bytes-reads.Post (λ κs s. tt {0})
+lend-bytes-one κs a r₁ r₂ s₁ s₂ p q = (p ∙ sym q, refl)
+
+pub copy-bytes-one : One copy-bytes.ended copy-bytes-reads.Post (λ κs s. now (s .1 .1 .1 .0))
+copy-bytes-one κs a r₁ r₂ s₁ s₂ p q = (p .0 ∙ sym (q .0), p .1 ∙ sym (q .1))
+
+pub buffered-read-bytes-one : One buffered-read-bytes.ended buffered-read-bytes-reads.Post (λ κs s. now (s .1 .1 .1 .0))
+buffered-read-bytes-one κs a r₁ r₂ s₁ s₂ p q = (p .0 ∙ sym (q .0), p .1 ∙ sym (q .1))
+
+pub read-one : One read.ended read-reads.Post (λ κs s. now (s .1 .1 .0))
+read-one κs a r₁ r₂ s₁ s₂ p q = (p .0 ∙ sym (q .0), p .1 ∙ sym (q .1))
+
+pub read-exact-one : One read-exact.ended read-exact-reads.Post (λ κs s. now (s .1 .1 .0))
+read-exact-one κs a r₁ r₂ s₁ s₂ p q = (p .0 ∙ sym (q .0), p .1 ∙ sym (q .1))
