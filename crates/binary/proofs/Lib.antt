@@ -1,0 +1,4 @@
+pub mod Smallests
+pub mod Patterns
+pub mod Narrowing
+pub mod Laws
