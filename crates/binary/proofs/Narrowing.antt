@@ -16,7 +16,7 @@ pub narrowed-by : (from to : Layout) (b : ℕ) (m : Meaning) → meaning from b 
 unfolding narrowed
 narrowed-by from to b m e = ap (narrowedMeaning to) e
 
-finite-meaning : (f : Layout) (b : ℕ) → exponent f b < allOnes f → meaning f b ≡ finite (negative f b) (magnitude f (exponent f b) (fraction f b))
+pub finite-meaning : (f : Layout) (b : ℕ) → exponent f b < allOnes f → meaning f b ≡ finite (negative f b) (magnitude f (exponent f b) (fraction f b))
 finite-meaning f b h = go (reading f b)
   where
     clash : (e o : ℕ) → e < o → e ≡ o → ⊥
