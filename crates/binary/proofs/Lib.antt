@@ -2,6 +2,7 @@ pub mod Smallests
 pub mod Patterns
 pub mod Narrowing
 pub mod Widths
-pub mod Steps
 pub mod Widening
+pub mod Steps
 pub mod Laws
+pub mod Nan

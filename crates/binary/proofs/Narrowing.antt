@@ -21,6 +21,7 @@ finite-meaning f b h = go (reading f b)
   where
     clash : (e o : ℕ) → e < o → e ≡ o → ⊥
     clash e o h q = omega arith
+
     go : Reading f b → meaning f b ≡ finite (negative f b) (magnitude f (exponent f b) (fraction f b))
     go (is-finite e m) = m
     go (is-infinite e z m) = absurd (clash (exponent f b) (allOnes f) h e)
@@ -64,6 +65,7 @@ module _ (from to : Layout) (b : ℕ) where
     where
       m : ℕ
       m = magnitude from (exponent from b) (fraction from b)
+
       go : (x : Bool) → has to m ≡ x → cond (has to m) (exact (signed to (negative from b) (candidate to m))) lost ≡ lost
       go true h = let k = found to m h in absurd (none (k .0) (k .1) (k .2) (k .3) (k .5))
       go false h = ap (λ (x : Bool). cond x (exact (signed to (negative from b) (candidate to m))) lost) h
@@ -116,10 +118,13 @@ value-has f q s m h = go (reading f q)
   where
     bad : (x : Meaning) (t : Bool) → x ≡ infinite t → x ≡ finite s m → ⊥
     bad x t a c = let z : _≡_ {A = ℕ} 0 1 = cc in omega arith
+
     bad' : (x : Meaning) (t : Bool) (k : ℕ) → x ≡ nan t k → x ≡ finite s m → ⊥
     bad' x t k a c = let z : _≡_ {A = ℕ} 0 1 = cc in omega arith
+
     same : (x : Meaning) (t : Bool) (k : ℕ) → x ≡ finite t k → x ≡ finite s m → k ≡ m
     same x t k a c = cc
+
     go : Reading f q → has f m ≡ true
     go (is-finite e k) =
         ap (has f) (sym (same (meaning f q) (negative f q) (magnitude f (exponent f q) (fraction f q)) k h)) ∙ has-it f (exponent f q) (fraction f q) e (fraction-lt f q)
@@ -131,6 +136,7 @@ narrows-meaning from to b (finite s m) h = go (has to m) refl
   where
     lacks : (x : Bool) → x ≡ false → x ≡ true → ⊥
     lacks x p q = let z : _≡_ {A = ℕ} 0 1 = cc in omega arith
+
     go : (x : Bool) → has to m ≡ x → Narrows from to b (cond (has to m) (exact (signed to s (candidate to m))) lost)
     go true e =
         let k = found to m e in

@@ -69,6 +69,7 @@ sign-and-rest c n h = go (leb c n) refl
   where
     less : c ≤ n → n - c < c
     less l = omega arith
+
     go : (t : Bool) → leb c n ≡ t → cond (leb c n) c 0 + n % c ≡ n
     go true e =
         let l : c ≤ n = leb-true c n e in

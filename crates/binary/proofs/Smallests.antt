@@ -15,7 +15,7 @@ use Rattle.binary.specs.Conversions.{packed}
 
 -- ---- one format
 
-pow-lt-back : (i p : ℕ) → 2 ^ i < 2 ^ p → i < p
+pub pow-lt-back : (i p : ℕ) → 2 ^ i < 2 ^ p → i < p
 pow-lt-back i p h = lt-of-not-le (λ (g : p ≤ i). lt-irrefl (2 ^ i) (lt-of-lt-of-le h (pow-mono g)))
 
 size-exact : (a n : ℕ) → 2 ^ a ≤ n → n < 2 ^ suc a → size n ≡ suc a

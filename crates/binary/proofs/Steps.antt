@@ -2,18 +2,19 @@
 use mathlib.Core.Path.{_≡_, refl, sym, ap, _∙_, subst}
 use mathlib.Core.Bool.{Bool, true, false, cond}
 use Prim.Native.Nat.{ℕ, zero, suc, _+_, _-_, _*_, _/_, _%_, _^_, _≤_, _<_}
-use native.Mathlib.Nat.{pow-suc, le-of-eq, le-trans, le-of-mul-le-mul-right, mul-assoc, mul-comm, mul-mod-left, div-add-mod', add-zero, mul-one, lt-of-lt-of-le, div-mul-le-self, mod-eq-of-lt, mul-div-cancel, zero-add, zero-mul}
+use native.Mathlib.Nat.{suc-mul, le-of-lt, lt-of-le-of-lt, mul-le-mul-right, pow-suc, le-of-eq, le-trans, le-of-mul-le-mul-right, mul-assoc, mul-comm, mul-mod-left, div-add-mod', add-zero, mul-one, lt-of-lt-of-le, div-mul-le-self, mod-eq-of-lt, mul-div-cancel, zero-add, zero-mul}
 use native.Mathlib.Omega.{arith}
 use lib.Arith.{digits-div}
 use lib.Dec.{leb}
-use lib.Pow.{pow-add, pow-pos, pow-mono, shr-lt}
+use lib.Count.{leadingZeros, leading-top}
+use lib.Pow.{pow-add, pow-pos, pow-mono, shl-lt, shr-lt}
 use borrow.Author.Tests.{leb-true, leb-false}
 use Rattle.binary.specs.Formats.{Layout, leading, signWeight, allOnes, negative, exponent, fraction, magnitude}
-use Rattle.binary.specs.Conversions.{signed, exact, lost, narrowed}
-use Rattle.binary.proofs.Smallests.{Origin, from-zero, from-subnormal, from-normal}
-use Rattle.binary.proofs.Patterns.{fraction-lt}
+use Rattle.binary.specs.Conversions.{signed, candidate, widened, exact, lost, narrowed}
+use Rattle.binary.proofs.Smallests.{pow-lt-back, raised-le, raised-lt, Origin, from-zero, from-subnormal, from-normal}
+use Rattle.binary.proofs.Patterns.{rest-lt, fraction-lt, candidate-is}
 use Rattle.binary.proofs.Narrowing.{gives, loses}
-use Rattle.binary.proofs.Widths.{Widens, kept-normal, kept-subnormal, kept-zero, comes-from}
+use Rattle.binary.proofs.Widths.{Widens, kept-normal, kept-subnormal, kept-zero, lifted, comes-from}
 
 -- ---- the sign, moved from its weight in one format to its weight in another
 
@@ -22,12 +23,16 @@ sign-is c w b C h = go (leb c b) refl
   where
     less : c ≤ b → b - c < c
     less l = omega arith
+
     one : c ≤ b → b ≡ 1 * c + (b - c)
     one l = omega arith
+
     none : b ≡ 0 * c + b
     none = omega arith
+
     unit-mul : 1 * w ≡ w
     unit-mul = omega arith
+
     go : (t : Bool) → leb c b ≡ t → b / c * w ≡ cond (leb c b) w 0
     go true e =
         ap (λ (x : ℕ). x / c * w) (one (leb-true c b e)) ∙ ap (λ (x : ℕ). x * w) (digits-div 1 (less (leb-true c b e))) ∙ unit-mul ∙ sym (ap (λ (t : Bool). cond t w 0) e)
@@ -98,8 +103,10 @@ module _ {narrow wide : Layout} (W : Widens narrow wide) (b : ℕ) where
     where
       lo : W .lift < exponent wide b
       lo = omega (arith, W .some)
+
       under : (e : ℕ) → e < allOnes narrow → exponent wide b ≡ e + W .lift → ⊥
       under e E x = omega arith
+
       go : (e t : ℕ) → e < allOnes narrow → Origin (narrow .fractionBits) (W .more) (wide .fractionBits) (W .lift) e t (exponent wide b) (fraction wide b) → ⊥
       go e t E (from-zero a z x y) = above-zero (exponent wide b) (W .lift) lo x
       go e t E (from-subnormal a j j1 jp x y) = above (exponent wide b) j (W .lift) lo j1 x
@@ -110,7 +117,7 @@ module _ {narrow wide : Layout} (W : Widens narrow wide) (b : ℕ) where
     finite-here : exponent wide b < allOnes wide
     finite-here = omega (arith, W .high, W .some)
 
-    kept-lt : significand wide b / 2 ^ down < leading narrow
+    pub kept-lt : significand wide b / 2 ^ down < leading narrow
     kept-lt =
         let top : significand wide b < 2 ^ suc (wide .fractionBits) = omega (arith, pow-suc 2 (wide .fractionBits), fraction-lt wide b) in
         shr-lt (narrow .fractionBits) down (lt-of-lt-of-le top (pow-mono {i = suc (wide .fractionBits)} {j = narrow .fractionBits + down} (omega (arith, W .fractions))))
@@ -139,10 +146,13 @@ module _ {narrow wide : Layout} (W : Widens narrow wide) (b : ℕ) where
       where
         not-zero : exponent wide b ≡ 0 → ⊥
         not-zero q = omega (arith, W .deep)
+
         down-is : (j : ℕ) → exponent wide b + j ≡ suc (W .lift) → j + W .more ≡ down
         down-is j q = omega arith
+
         under : (e : ℕ) → 1 ≤ e → exponent wide b ≡ e + W .lift → ⊥
         under e E x = omega arith
+
         go : (e t : ℕ) → e < allOnes narrow → Origin (narrow .fractionBits) (W .more) (wide .fractionBits) (W .lift) e t (exponent wide b) (fraction wide b) → ⊥
         go e t E (from-zero a z x y) = not-zero x
         go e t E (from-subnormal a j j1 jp x y) =
@@ -156,8 +166,10 @@ module _ {narrow wide : Layout} (W : Widens narrow wide) (b : ℕ) where
     where
       over : (j : ℕ) → j ≤ narrow .fractionBits → exponent wide b + j ≡ suc (W .lift) → ⊥
       over j h q = omega arith
+
       under : (e : ℕ) → 1 ≤ e → exponent wide b ≡ e + W .lift → ⊥
       under e E x = omega arith
+
       go : (e t : ℕ) → e < allOnes narrow → Origin (narrow .fractionBits) (W .more) (wide .fractionBits) (W .lift) e t (exponent wide b) (fraction wide b) → ⊥
       go e t E (from-zero a z x y) = n x y
       go e t E (from-subnormal a j j1 jp x y) = over j jp x
@@ -168,3 +180,95 @@ module _ {narrow wide : Layout} (W : Widens narrow wide) (b : ℕ) where
       gives wide narrow b 0 0 (omega (arith, W .high, W .some)) (W .some) (pow-pos (narrow .fractionBits))
       (kept-zero W ∙ ap (λ (x : ℕ). magnitude wide x 0) (sym e) ∙ ap (magnitude wide (exponent wide b)) (sym z))
       ∙ ap (λ (x : ℕ). exact (signed narrow (negative wide b) (x + 0))) (zero-mul (leading narrow))
+
+-- ---- widening a subnormal number
+
+-- how far up the leading digit of a fraction has to go, as the machine counts the zeros above it in k digits
+pub zeros-above : (k p t : ℕ) → p < k → 0 < t → t < 2 ^ p
+    → (k - suc p ≤ leadingZeros k t) × (leadingZeros k t - (k - suc p) ≤ p) × (2 ^ p ≤ t * 2 ^ (leadingZeros k t - (k - suc p))) × (t * 2 ^ (leadingZeros k t - (k - suc p)) < 2 ^ suc p)
+zeros-above k p t K P h =
+    let m = leading-top k t P (lt-of-lt-of-le h (pow-mono (le-of-lt K))) in
+    let i = m .0 in
+    let z = leadingZeros k t in
+    let j = z - (k - suc p) in
+    let i-lt : i < p = pow-lt-back i p (lt-of-le-of-lt (m .2) h) in
+    let p-is : p ≡ i + j = split k p z i K (m .1) i-lt in
+    let s-is : suc i + j ≡ suc p = omega arith in (
+      count k p z i K (m .1) i-lt,
+      omega arith,
+      le-trans (le-of-eq (ap (λ (x : ℕ). 2 ^ x) p-is ∙ pow-add 2 i j)) (mul-le-mul-right (2 ^ j) (m .2)),
+      subst (λ (x : ℕ). t * 2 ^ j < 2 ^ x) s-is (shl-lt (suc i) j (m .3)),
+    )
+  where
+    split : (k p z i : ℕ) → p < k → z + suc i ≡ k → i < p → p ≡ i + (z - (k - suc p))
+    split k p z i K q h = omega arith
+
+    count : (k p z i : ℕ) → p < k → z + suc i ≡ k → i < p → k - suc p ≤ z
+    count k p z i K q h = omega arith
+
+module _ {narrow wide : Layout} (W : Widens narrow wide) where
+  lead : (x l n : ℕ) → l ≤ n → suc x * l + (n - l) ≡ x * l + n
+  lead x l n h = rw (suc-mul x l) (omega arith)
+
+  pub raised-is : (j t : ℕ) → j ≤ W .lift → leading narrow ≤ t * 2 ^ j → t * 2 ^ j < 2 ^ suc (narrow .fractionBits)
+      → (W .lift - j) * leading wide + t * 2 ^ (j + W .more) ≡ candidate wide (magnitude narrow 0 t)
+  raised-is j t J lo hi =
+      sym (ap (candidate wide) (kept-subnormal W j t J lo)
+      ∙ candidate-is wide (suc (W .lift - j)) (t * 2 ^ (j + W .more) - leading wide) (raised-lt (narrow .fractionBits) (W .more) (wide .fractionBits) j t (W .fractions) lo hi)
+      ∙ lead (W .lift - j) (leading wide) (t * 2 ^ (j + W .more)) (raised-le (narrow .fractionBits) (W .more) (wide .fractionBits) j t (W .fractions) lo))
+
+  -- the digits after the move, below the next power of two
+  pub raised-under : (j t : ℕ) → t * 2 ^ j < 2 ^ suc (narrow .fractionBits) → t * 2 ^ (j + W .more) < 2 ^ suc (wide .fractionBits)
+  raised-under j t hi =
+      let r : t * 2 ^ (j + W .more) ≡ t * 2 ^ j * 2 ^ W .more = ap (λ (x : ℕ). t * x) (pow-add 2 j (W .more)) ∙ sym (mul-assoc t (2 ^ j) (2 ^ W .more)) in
+      let k : suc (narrow .fractionBits) + W .more ≡ suc (wide .fractionBits) = omega (arith, W .fractions) in
+      subst (λ (x : ℕ). x < 2 ^ suc (wide .fractionBits)) (sym r) (subst (λ (x : ℕ). t * 2 ^ j * 2 ^ W .more < 2 ^ x) k (shl-lt (suc (narrow .fractionBits)) (W .more) hi))
+
+  pub zero-is : candidate wide (magnitude narrow 0 0) ≡ 0
+  zero-is = ap (candidate wide) (kept-zero W) ∙ candidate-is wide 0 0 (pow-pos (wide .fractionBits)) ∙ add-zero (0 * leading wide) ∙ zero-mul (leading wide)
+
+-- a shift back up that loses nothing
+pub shift-back : (n d w : ℕ) → n < 2 ^ w → n / 2 ^ d * 2 ^ d % 2 ^ w ≡ n / 2 ^ d * 2 ^ d
+shift-back n d w h = mod-eq-of-lt (lt-of-le-of-lt (div-mul-le-self n (2 ^ d)) h)
+
+-- ---- the same, as the code writes it
+
+module _ {narrow wide : Layout} (W : Widens narrow wide) where
+  pub narrow-sign : (b r : ℕ) → b < 2 * signWeight wide → narrowed wide narrow b ≡ exact (signed narrow (negative wide b) r) → exact (b / signWeight wide * signWeight narrow + r) ≡ narrowed wide narrow b
+  narrow-sign b r h e =
+      ap (λ (x : ℕ). exact (x + r)) (sign-is (signWeight wide) (signWeight narrow) b (pow-pos (wide .exponentBits + wide .fractionBits)) h) ∙ sym e
+
+  pub widen-sign : (b r : ℕ) → b < 2 * signWeight narrow → widened narrow wide b ≡ signed wide (negative narrow b) r → b / signWeight narrow * signWeight wide + r ≡ widened narrow wide b
+  widen-sign b r h e =
+      ap (λ (x : ℕ). x + r) (sign-is (signWeight narrow) (signWeight wide) b (pow-pos (narrow .exponentBits + narrow .fractionBits)) h) ∙ sym e
+
+  -- the rest of a widened pattern leaves the sign's place free
+  pub lifted-lt : (e t : ℕ) → e < allOnes narrow → t < leading narrow → candidate wide (magnitude narrow e t) < signWeight wide
+  lifted-lt e t E T =
+      let k = lifted W e t E T in
+      subst (λ (x : ℕ). x < signWeight wide) (sym (ap (candidate wide) (k .4) ∙ candidate-is wide (k .0) (k .1) (k .3))) (rest-lt wide (k .0) (k .1) (le-of-lt (k .2)) (k .3))
+
+  -- A subnormal number whose zeros are counted in k digits, moved up in w digits.
+  module _ (k w t : ℕ) (K : narrow .fractionBits < k) (room : wide .fractionBits < w) (P : 0 < t) (T : t < leading narrow) where
+    abbrev pub up : ℕ
+    up = leadingZeros k t - (k - suc (narrow .fractionBits))
+
+    pub up-counted : k - suc (narrow .fractionBits) ≤ leadingZeros k t
+    up-counted = zeros-above k (narrow .fractionBits) t K P T .0
+
+    pub up-le : up ≤ narrow .fractionBits
+    up-le = zeros-above k (narrow .fractionBits) t K P T .1
+
+    under : t * 2 ^ (up + W .more) < 2 ^ suc (wide .fractionBits)
+    under = raised-under W up t (zeros-above k (narrow .fractionBits) t K P T .3)
+
+    whole-shift : t * 2 ^ (up + W .more) % 2 ^ w ≡ t * 2 ^ (up + W .more)
+    whole-shift = mod-eq-of-lt (lt-of-lt-of-le under (pow-mono {i = suc (wide .fractionBits)} {j = w} room))
+
+    pub raised-small : t * 2 ^ (up + W .more) % 2 ^ w < 2 ^ suc (wide .fractionBits)
+    raised-small = subst (λ (x : ℕ). x < 2 ^ suc (wide .fractionBits)) (sym whole-shift) under
+
+    pub raised-code : (W .lift - up) * leading wide + t * 2 ^ (up + W .more) % 2 ^ w ≡ candidate wide (magnitude narrow 0 t)
+    raised-code =
+        let z = zeros-above k (narrow .fractionBits) t K P T in
+        ap (λ (x : ℕ). (W .lift - up) * leading wide + x) whole-shift ∙ raised-is W up t (le-trans (z .1) (W .deep)) (z .2) (z .3)
