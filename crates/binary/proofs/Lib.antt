@@ -6,3 +6,4 @@ pub mod Widening
 pub mod Steps
 pub mod Laws
 pub mod Nan
+pub mod Values

@@ -88,7 +88,7 @@ same-pattern f b c B C n e t = sym (pattern-is f b B) ∙ ap (λ (s : Bool). sig
 abbrev pub meant : Layout → Bool → ℕ → ℕ → Meaning
 meant f s e t = cond (eqb e (allOnes f)) (cond (eqb t 0) (infinite s) (nan s t)) (finite s (magnitude f e t))
 
-meaning-is : (f : Layout) (b : ℕ) → meaning f b ≡ meant f (negative f b) (exponent f b) (fraction f b)
+pub meaning-is : (f : Layout) (b : ℕ) → meaning f b ≡ meant f (negative f b) (exponent f b) (fraction f b)
 unfolding meaning
 meaning-is f b = refl
 

@@ -1,0 +1,138 @@
+-- The logic's own account of `f32` and `f64` agrees with the formats of this crate: what `ofBits` reads from a pattern has the pattern's sign and magnitude, is the same infinity, or is the NaN exactly at a NaN's pattern.
+-- Rests on `lib.Ieee`: that `odd` keeps its value, and that what is read fits its format.
+use mathlib.Core.Path.{_≡_, refl, sym, ap, _∙_, subst}
+use mathlib.Core.Bool.{Bool, true, false, cond, _&&_}
+use Prim.Native.Nat.{ℕ, zero, suc, _+_, _-_, _*_, _/_, _%_, _^_, _≤_, _<_}
+use native.Mathlib.Nat.{mul-assoc, mul-comm, mul-one, mul-right-comm, eq-of-mul-eq-mul-right, le-refl, le-trans}
+use native.Mathlib.Omega.{arith}
+use lib.Dec.{T, leb, ltb, eqb, lit≤, lit<, leb→le, eqb→eq}
+use lib.IntN.{ℤ, pos, negsuc}
+use lib.Pow.{pow-add, pow-pos, pow-lt, pow-mono}
+use lib.Ieee.{Float, Format, binary32, binary64, prec, emax, low, up, down, hid, ones, top, odd, fits, ofFields, ofBits}
+use lib.Ieee as I
+use lib.Ieee.Bits.{ofBits-fits}
+use lib.Ieee.Exact.{HasValue, odd-sign}
+use lib.Ieee.Fits.{and-l, and-r, down-pos}
+use borrow.Author.Tests.{leb-true, leb-false}
+use Rattle.binary.specs.Formats.{Layout, single, double, leading, signWeight, allOnes, unit, negative, exponent, fraction, smallests, magnitude, Meaning, finite, infinite, nan, meaning}
+use Rattle.binary.specs.Floats.{layoutOf, unitsOf, floatMeaning, plain}
+use Rattle.binary.proofs.Patterns.{meant, meaning-is, meant-finite}
+
+-- ---- a float that is a fraction of 2 ^ l, in units of 2 ^ -1074
+
+clash : (a b : ℕ) → a ≤ b → b < a → ⊥
+clash a b p q = omega arith
+
+not-above : (k : ℕ) (t : Bool) → leb k 1074 ≡ t → 2 ^ k ≤ 2 ^ 1074 → k ≤ 1074
+not-above k true e p = leb-true k 1074 e
+not-above k false e p = absurd (clash (2 ^ k) (2 ^ 1074) p (pow-lt (leb-false k 1074 e)))
+
+scale : (m : ℕ) (e : ℤ) → down e ≤ 2 ^ 1074 → unitsOf m e * down e ≡ m * up e * 2 ^ 1074
+scale m (pos k) h = mul-one (m * 2 ^ (1074 + k)) ∙ ap (λ (x : ℕ). m * x) (pow-add 2 1074 k ∙ mul-comm (2 ^ 1074) (2 ^ k)) ∙ sym (mul-assoc m (2 ^ k) (2 ^ 1074))
+scale m (negsuc j) h =
+    let l : suc j ≤ 1074 = not-above (suc j) (leb (suc j) 1074) refl h in
+    let e : 1073 - j + suc j ≡ 1074 = omega arith in
+    mul-assoc m (2 ^ (1073 - j)) (2 ^ suc j)
+    ∙ ap (λ (x : ℕ). m * x) (sym (pow-add 2 (1073 - j) (suc j)) ∙ ap (λ (x : ℕ). 2 ^ x) e)
+    ∙ ap (λ (x : ℕ). x * 2 ^ 1074) (sym (mul-one m))
+
+-- the exponent of a float is no lower than that of the smallest unit
+abbrev Fine : Float → Type 0
+Fine I.nan = Unit {0}
+Fine (I.inf s) = Unit {0}
+Fine (I.fin s m e) = down e ≤ 2 ^ 1074
+
+one-le : (x p : ℕ) → 1 * x ≡ 1 → 0 < p → x ≤ p
+one-le x p e h = omega arith
+
+low-ok : (f : Format) → 2 ^ low f ≤ 2 ^ 1074
+low-ok binary32 = pow-mono {i = 149} {j = 1074} (lit≤ tt)
+low-ok binary64 = le-refl (2 ^ 1074)
+
+fine : (f : Format) (x : Float) → T (fits f x) → Fine x
+unfolding fits
+fine f I.nan t = tt
+fine f (I.inf s) t = tt
+fine f (I.fin s zero (pos k)) t = lit≤ tt
+fine f (I.fin s zero (negsuc k)) t = one-le (2 ^ suc k) (2 ^ 1074) (eqb→eq (1 * 2 ^ suc k) 1 t) (pow-pos 1074)
+fine f (I.fin s (suc m) e) t =
+    le-trans (leb→le (down e) (2 ^ low f)
+    (and-r (eqb (suc m % 2) 1 && ltb (suc m) (2 ^ prec f)) (leb (down e) (2 ^ low f))
+    (and-l (eqb (suc m % 2) 1 && ltb (suc m) (2 ^ prec f) && leb (down e) (2 ^ low f)) (ltb (suc m * up e) (2 ^ suc (emax f) * down e)) t)))
+    (low-ok f)
+
+counted : (l j m n : ℕ) (e : ℤ) → l + j ≡ 1074 → down e ≤ 2 ^ 1074 → m * up e * 2 ^ l ≡ n * down e → unitsOf m e ≡ n * 2 ^ j
+counted l j m n e L d h =
+    eq-of-mul-eq-mul-right (down e) (down-pos e) (unitsOf m e) (n * 2 ^ j)
+    (scale m e d
+    ∙ ap (λ (x : ℕ). m * up e * x) (ap (λ (x : ℕ). 2 ^ x) (sym L) ∙ pow-add 2 l j)
+    ∙ sym (mul-assoc (m * up e) (2 ^ l) (2 ^ j))
+    ∙ ap (λ (x : ℕ). x * 2 ^ j) h
+    ∙ mul-right-comm n (down e) (2 ^ j))
+
+value-means : (x : Float) (s : Bool) (n l j : ℕ) → l + j ≡ 1074 → Fine x → HasValue x s n (2 ^ l) → floatMeaning x ≡ finite s (n * 2 ^ j)
+unfolding floatMeaning
+value-means I.nan s n l j L d h = absurd h
+value-means (I.inf t) s n l j L d h = absurd h
+value-means (I.fin t m e) s n l j L d h = ap (λ (b : Bool). finite b (unitsOf m e)) (h .0) ∙ ap (finite s) (counted l j m n e L d (h .1))
+
+-- ---- what the fields are read as
+
+low-unit : (f : Format) → low f + unit (layoutOf f) ≡ 1074
+low-unit binary32 = refl
+low-unit binary64 = refl
+
+same-ones : (f : Format) → ones f ≡ allOnes (layoutOf f)
+same-ones binary32 = refl
+same-ones binary64 = refl
+
+same-lead : (f : Format) → hid f ≡ leading (layoutOf f)
+same-lead binary32 = refl
+same-lead binary64 = refl
+
+same-sign : (f : Format) → top f ≡ signWeight (layoutOf f)
+same-sign binary32 = refl
+same-sign binary64 = refl
+
+some-ones : (f : Format) → 0 < allOnes (layoutOf f)
+some-ones binary32 = lit< tt
+some-ones binary64 = lit< tt
+
+by-tests : (a b : Bool) (s : Bool) (t : ℕ) (x : Float) (y : Meaning) → (a ≡ false → floatMeaning x ≡ plain y)
+    → floatMeaning (cond a (cond b (I.inf s) I.nan) x) ≡ plain (cond a (cond b (infinite s) (nan s t)) y)
+unfolding floatMeaning
+by-tests true true s t x y h = refl
+by-tests true false s t x y h = refl
+by-tests false b s t x y h = h refl
+
+fits-inside : (f : Format) (a b : Bool) (s : Bool) (x : Float) → a ≡ false → T (fits f (cond a (cond b (I.inf s) I.nan) x)) → T (fits f x)
+fits-inside f a b s x e F = subst (λ (c : Bool). T (fits f (cond c (cond b (I.inf s) I.nan) x))) e F
+
+low-means : (f : Format) (s : Bool) (q x : ℕ) → T (fits f (odd (prec f) s q x (low f))) → floatMeaning (odd (prec f) s q x (low f)) ≡ finite s (q * 2 ^ x * 2 ^ unit (layoutOf f))
+low-means f s q x F =
+    value-means (odd (prec f) s q x (low f)) s (q * 2 ^ x) (low f) (unit (layoutOf f)) (low-unit f) (fine f (odd (prec f) s q x (low f)) F) (odd-sign (prec f) s q x (low f))
+
+fields-mean : (f : Format) (s : Bool) (x t : ℕ) → T (fits f (ofFields f s x t)) → floatMeaning (ofFields f s x t) ≡ plain (meant (layoutOf f) s x t)
+unfolding ofFields smallests
+fields-mean f s zero t F =
+    low-means f s t 0 F
+    ∙ ap (λ (n : ℕ). finite s (n * 2 ^ unit (layoutOf f))) (mul-one t)
+    ∙ sym (ap plain (meant-finite (layoutOf f) s 0 t (some-ones f)))
+fields-mean f s (suc x) t F =
+    let o = odd (prec f) s (hid f + t) x (low f) in
+    by-tests (eqb (suc x) (ones f)) (eqb t 0) s t o (finite s (magnitude (layoutOf f) (suc x) t))
+    (λ e. low-means f s (hid f + t) x (fits-inside f (eqb (suc x) (ones f)) (eqb t 0) s o e F) ∙ ap (λ (h : ℕ). finite s ((h + t) * 2 ^ x * 2 ^ unit (layoutOf f))) (same-lead f))
+    ∙ ap (λ (n : ℕ). plain (cond (eqb (suc x) n) (cond (eqb t 0) (infinite s) (nan s t)) (finite s (magnitude (layoutOf f) (suc x) t)))) (same-ones f)
+
+fields-are : (f : Format) (b : ℕ) → ofBits f b ≡ ofFields f (leb (top f) b) (b % top f / hid f) (b % hid f)
+unfolding ofBits
+fields-are f b = refl
+
+-- the tie: what the logic reads from a pattern is what the pattern means
+pub ofBits-means : (f : Format) (b : ℕ) → floatMeaning (ofBits f b) ≡ plain (meaning (layoutOf f) b)
+ofBits-means f b =
+    ap floatMeaning (fields-are f b)
+    ∙ fields-mean f (leb (top f) b) (b % top f / hid f) (b % hid f) (subst (λ (x : Float). T (fits f x)) (fields-are f b) (ofBits-fits f b))
+    ∙ ap (λ (w : ℕ). plain (meant (layoutOf f) (leb w b) (b % w / hid f) (b % hid f))) (same-sign f)
+    ∙ ap (λ (h : ℕ). plain (meant (layoutOf f) (negative (layoutOf f) b) (b % signWeight (layoutOf f) / h) (b % h))) (same-lead f)
+    ∙ sym (ap plain (meaning-is (layoutOf f) b))
