@@ -2,11 +2,11 @@
 use mathlib.Core.Path.{_≡_, refl, sym, ap, _∙_, subst}
 use mathlib.Core.Bool.{Bool}
 use Prim.Native.Nat.{ℕ, zero, suc, _+_, _-_, _*_, _/_, _%_, _^_, _≤_, _<_}
-use native.Mathlib.Nat.{le-of-lt, le-of-eq, mod-lt, pow-suc}
+use native.Mathlib.Nat.{add-zero, zero-mul, le-of-lt, le-of-eq, mod-lt, pow-suc}
 use native.Mathlib.Omega.{arith}
 use lib.Pow.{pow-pos}
-use Rattle.binary.specs.Formats.{Layout, leading, signWeight, allOnes, negative, exponent, fraction, magnitude, Meaning, finite, infinite, nan, meaning, Number, SameValue}
-use Rattle.binary.specs.Conversions.{signed, infinity, quieted, widenedMeaning, widened, Narrowed, exact, lost, narrowedMeaning, narrowed, Narrows}
+use Rattle.binary.specs.Formats.{Layout, leading, signWeight, allOnes, negative, exponent, fraction, unit, smallests, magnitude, Meaning, finite, infinite, nan, meaning, Number, SameValue}
+use Rattle.binary.specs.Conversions.{signed, infinity, quieted, widenedMeaning, widened, Narrowed, exact, lost, narrowedMeaning, narrowed, Narrows, through}
 use Rattle.binary.proofs.Patterns.{rest-lt, signed-lt, fraction-lt, meaning-signed, meant-finite, meant-nan, Reading, is-finite, is-infinite, is-nan, reading, one-pattern}
 use Rattle.binary.proofs.Narrowing.{narrows, one-answer, infinite-here, infinity-lt}
 use Rattle.binary.proofs.Widths.{Widens, lifted}
@@ -30,6 +30,25 @@ narrowed-lost from to b h = subst (λ (n : Narrowed). Narrows from to b n) h (na
 pub narrowed-nan : (from to : Layout) (b : ℕ) (s : Bool) (t : ℕ) → meaning from b ≡ nan s t → narrowed from to b ≡ lost
 unfolding narrowed
 narrowed-nan from to b s t h = ap (narrowedMeaning to) h
+
+-- Both zeros and both infinities narrow.
+zero-magnitude : (f : Layout) → magnitude f 0 0 ≡ 0
+unfolding smallests
+zero-magnitude f = zero-mul (2 ^ unit f)
+
+pub narrowed-zero : (from to : Layout) (b : ℕ) (s : Bool) → 0 < allOnes to → meaning from b ≡ finite s 0 → narrowed from to b ≡ exact (signed to s 0)
+narrowed-zero from to b s o h =
+    let m : meaning to (signed to s 0) ≡ finite s 0 =
+    ap (λ (x : ℕ). meaning to (signed to s x)) (sym (add-zero (0 * leading to) ∙ zero-mul (leading to)))
+    ∙ meaning-signed to s 0 0 (le-of-lt o) (pow-pos (to .fractionBits))
+    ∙ meant-finite to s 0 0 o
+    ∙ ap (finite s) (zero-magnitude to) in
+    narrowed-complete from to b (signed to s 0)
+    (signed-lt to s 0 (pow-pos (to .exponentBits + to .fractionBits)), subst Number (sym h) tt, m ∙ sym h)
+
+pub narrowed-infinite : (from to : Layout) (b : ℕ) (s : Bool) → meaning from b ≡ infinite s → narrowed from to b ≡ exact (signed to s (infinity to))
+unfolding narrowed
+narrowed-infinite from to b s h = ap (narrowedMeaning to) h
 
 -- ---- widening keeps the sign and the magnitude
 
@@ -65,6 +84,21 @@ module _ {narrow wide : Layout} (W : Widens narrow wide) where
       let v = narrowed-sound wide narrow b q h in
       let n : Number (meaning narrow q) = subst Number (sym (v .2)) (v .1) in
       one-pattern wide (widened narrow wide q) b (widened-lt q n) B (widened-keeps q n ∙ v .2)
+
+  -- Narrowing in two steps is narrowing: a value of the narrow format is one of the format between.
+  step : (from : Layout) (b : ℕ) (n : Narrowed) → Narrows from wide b n → Narrows from narrow b (through n (narrowed wide narrow))
+  step from b (exact m) v = go (narrowed wide narrow m) (narrows wide narrow m)
+    where
+      go : (k : Narrowed) → Narrows wide narrow m k → Narrows from narrow b k
+      go (exact q) u = (u .0, v .1, u .2 ∙ v .2)
+      go lost u = λ q t. u q (t .0, subst Number (sym (v .2)) (v .1), t .2 ∙ sym (v .2))
+  step from b lost v = λ q t.
+      let n : Number (meaning narrow q) = subst Number (sym (t .2)) (t .1) in
+      v (widened narrow wide q) (widened-lt q n, t .1, widened-keeps q n ∙ t .2)
+
+  pub narrowed-through : (from : Layout) (b : ℕ) → narrowed from narrow b ≡ through (narrowed from wide b) (narrowed wide narrow)
+  narrowed-through from b =
+      one-answer from narrow b (narrowed from narrow b) (through (narrowed from wide b) (narrowed wide narrow)) (narrows from narrow b) (step from b (narrowed from wide b) (narrows from wide b))
 
 -- ---- a NaN's bits
 

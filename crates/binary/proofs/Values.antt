@@ -1,22 +1,22 @@
 -- The logic's own account of `f32` and `f64` agrees with the formats of this crate: what `ofBits` reads from a pattern has the pattern's sign and magnitude, is the same infinity, or is the NaN exactly at a NaN's pattern.
 -- Rests on `lib.Ieee`: that `odd` keeps its value, and that what is read fits its format.
 use mathlib.Core.Path.{_≡_, refl, sym, ap, _∙_, subst}
-use mathlib.Core.Bool.{Bool, true, false, cond, _&&_}
+use mathlib.Core.Bool.{Bool, true, false, not, cond, _&&_}
 use Prim.Native.Nat.{ℕ, zero, suc, _+_, _-_, _*_, _/_, _%_, _^_, _≤_, _<_}
 use native.Mathlib.Nat.{mul-assoc, mul-comm, mul-one, mul-right-comm, eq-of-mul-eq-mul-right, le-refl, le-trans}
 use native.Mathlib.Omega.{arith}
 use lib.Dec.{T, leb, ltb, eqb, lit≤, lit<, leb→le, eqb→eq}
 use lib.IntN.{ℤ, pos, negsuc}
 use lib.Pow.{pow-add, pow-pos, pow-lt, pow-mono}
-use lib.Ieee.{Float, Format, binary32, binary64, prec, emax, low, up, down, hid, ones, top, odd, fits, ofFields, ofBits}
+use lib.Ieee.{Float, Format, binary32, binary64, prec, emax, low, up, down, hid, ones, top, odd, fits, isNan, ofFields, ofBits, toBits}
 use lib.Ieee as I
-use lib.Ieee.Bits.{ofBits-fits}
+use lib.Ieee.Bits.{ofBits-fits, ofBits-toBits, toBits-lt}
 use lib.Ieee.Exact.{HasValue, odd-sign}
 use lib.Ieee.Fits.{and-l, and-r, down-pos}
 use borrow.Author.Tests.{leb-true, leb-false}
-use Rattle.binary.specs.Formats.{Layout, single, double, leading, signWeight, allOnes, unit, negative, exponent, fraction, smallests, magnitude, Meaning, finite, infinite, nan, meaning}
+use Rattle.binary.specs.Formats.{Layout, single, double, leading, signWeight, allOnes, unit, negative, exponent, fraction, smallests, magnitude, Meaning, finite, infinite, nan, meaning, Number}
 use Rattle.binary.specs.Floats.{layoutOf, unitsOf, floatMeaning, plain}
-use Rattle.binary.proofs.Patterns.{meant, meaning-is, meant-finite}
+use Rattle.binary.proofs.Patterns.{meant, meaning-is, meant-finite, one-pattern}
 
 -- ---- a float that is a fraction of 2 ^ l, in units of 2 ^ -1074
 
@@ -136,3 +136,50 @@ ofBits-means f b =
     ∙ ap (λ (w : ℕ). plain (meant (layoutOf f) (leb w b) (b % w / hid f) (b % hid f))) (same-sign f)
     ∙ ap (λ (h : ℕ). plain (meant (layoutOf f) (negative (layoutOf f) b) (b % signWeight (layoutOf f) / h) (b % h))) (same-lead f)
     ∙ sym (ap plain (meaning-is (layoutOf f) b))
+
+-- ---- so a float that fits has the pattern that means it
+
+pub toBits-means : (f : Format) (x : Float) → T (fits f x) → plain (meaning (layoutOf f) (toBits f x)) ≡ floatMeaning x
+toBits-means f x F = sym (ofBits-means f (toBits f x)) ∙ ap floatMeaning (ofBits-toBits f x F)
+
+differ : (s : Bool) (m : ℕ) → nan false 0 ≡ finite s m → ⊥
+differ s m h = let z : _≡_ {A = ℕ} 0 1 = cc in omega arith
+
+differ' : (s : Bool) → nan false 0 ≡ infinite s → ⊥
+differ' s h = let z : _≡_ {A = ℕ} 0 1 = cc in omega arith
+
+plain-number : (y z : Meaning) → plain y ≡ plain z → Number z → y ≡ z
+plain-number (finite s m) (finite t n) h k = h
+plain-number (finite s m) (infinite t) h k = h
+plain-number (infinite s) (finite t n) h k = h
+plain-number (infinite s) (infinite t) h k = h
+plain-number (nan s m) (finite t n) h k = absurd (differ t n h)
+plain-number (nan s m) (infinite t) h k = absurd (differ' t h)
+plain-number y (nan t n) h k = absurd k
+
+nan-float : (x : Float) → floatMeaning x ≡ nan false 0 → x ≡ I.nan
+unfolding floatMeaning
+nan-float I.nan h = refl
+nan-float (I.inf s) h = absurd (differ' s (sym h))
+nan-float (I.fin s m e) h = absurd (differ s (unitsOf m e) (sym h))
+
+-- a NaN's pattern is read as the NaN, and no other is
+pub nan-value : (f : Format) (b : ℕ) (s : Bool) (t : ℕ) → meaning (layoutOf f) b ≡ nan s t → ofBits f b ≡ I.nan
+nan-value f b s t h = nan-float (ofBits f b) (ofBits-means f b ∙ ap plain h)
+
+number-float : (x : Float) → T (not (isNan x)) → Number (floatMeaning x)
+unfolding isNan floatMeaning
+number-float I.nan h = h
+number-float (I.inf s) h = tt
+number-float (I.fin s m e) h = tt
+
+-- a number's pattern is the one that means it
+pub pattern-of : (f : Format) (x : Float) (b : ℕ) → T (fits f x) → b < 2 * signWeight (layoutOf f) → Number (meaning (layoutOf f) b) → floatMeaning x ≡ meaning (layoutOf f) b → toBits f x ≡ b
+pattern-of f x b F B n h =
+    one-pattern (layoutOf f) (toBits f x) b (subst (λ (w : ℕ). toBits f x < 2 * w) (same-sign f) (toBits-lt f x F)) B
+    (plain-number (meaning (layoutOf f) (toBits f x)) (meaning (layoutOf f) b) (toBits-means f x F ∙ h ∙ sym (plain-is (meaning (layoutOf f) b) n)) n)
+  where
+    plain-is : (y : Meaning) → Number y → plain y ≡ y
+    plain-is (finite s m) k = refl
+    plain-is (infinite s) k = refl
+    plain-is (nan s t) k = absurd k
