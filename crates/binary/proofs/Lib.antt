@@ -7,3 +7,4 @@ pub mod Steps
 pub mod Laws
 pub mod Nan
 pub mod Values
+pub mod Examples

@@ -12,11 +12,14 @@ use lib.Ieee.{Float, Format, binary32, binary64, prec, emax, low, up, down, hid,
 use lib.Ieee as I
 use lib.Ieee.Bits.{ofBits-fits, ofBits-toBits, toBits-lt}
 use lib.Ieee.Exact.{HasValue, odd-sign}
-use lib.Ieee.Fits.{and-l, and-r, down-pos}
+use lib.Ieee.Fits.{and-l, and-r, down-pos, fits-widens}
 use borrow.Author.Tests.{leb-true, leb-false}
 use Rattle.binary.specs.Formats.{Layout, single, double, leading, signWeight, allOnes, unit, negative, exponent, fraction, smallests, magnitude, Meaning, finite, infinite, nan, meaning, Number}
+use Rattle.binary.specs.Conversions.{quieted, widened, exact, narrowed}
 use Rattle.binary.specs.Floats.{layoutOf, unitsOf, floatMeaning, plain}
-use Rattle.binary.proofs.Patterns.{meant, meaning-is, meant-finite, one-pattern}
+use Rattle.binary.proofs.Patterns.{meant, meaning-is, meant-finite, Reading, is-finite, is-infinite, is-nan, reading, one-pattern}
+use Rattle.binary.proofs.Widths.{single-double}
+use Rattle.binary.proofs.Laws.{narrowed-complete, widened-lt, widened-keeps, widened-narrowed, widened-nan}
 
 -- ---- a float that is a fraction of 2 ^ l, in units of 2 ^ -1074
 
@@ -157,6 +160,11 @@ plain-number (nan s m) (finite t n) h k = absurd (differ t n h)
 plain-number (nan s m) (infinite t) h k = absurd (differ' t h)
 plain-number y (nan t n) h k = absurd k
 
+plain-is : (y : Meaning) → Number y → plain y ≡ y
+plain-is (finite s m) k = refl
+plain-is (infinite s) k = refl
+plain-is (nan s t) k = absurd k
+
 nan-float : (x : Float) → floatMeaning x ≡ nan false 0 → x ≡ I.nan
 unfolding floatMeaning
 nan-float I.nan h = refl
@@ -178,8 +186,39 @@ pub pattern-of : (f : Format) (x : Float) (b : ℕ) → T (fits f x) → b < 2 *
 pattern-of f x b F B n h =
     one-pattern (layoutOf f) (toBits f x) b (subst (λ (w : ℕ). toBits f x < 2 * w) (same-sign f) (toBits-lt f x F)) B
     (plain-number (meaning (layoutOf f) (toBits f x)) (meaning (layoutOf f) b) (toBits-means f x F ∙ h ∙ sym (plain-is (meaning (layoutOf f) b) n)) n)
+
+-- ---- the two widths of a value
+
+-- widening a pattern keeps the float that it is read as, a NaN's too
+pub widened-value : (b : ℕ) → ofBits binary64 (widened single double b) ≡ ofBits binary32 b
+widened-value b = go (reading single b)
   where
-    plain-is : (y : Meaning) → Number y → plain y ≡ y
-    plain-is (finite s m) k = refl
-    plain-is (infinite s) k = refl
-    plain-is (nan s t) k = absurd k
+    number : Number (meaning single b) → ofBits binary64 (widened single double b) ≡ ofBits binary32 b
+    number n =
+        let x = ofBits binary32 b in
+        let F : T (fits binary64 x) = fits-widens x (ofBits-fits binary32 b) in
+        let w = widened single double b in
+        let k : meaning double w ≡ meaning single b = widened-keeps single-double b n in
+        let m : Number (meaning double w) = subst Number (sym k) n in
+        let q : toBits binary64 x ≡ w = pattern-of binary64 x w F (widened-lt single-double b n) m (ofBits-means binary32 b ∙ plain-is (meaning single b) n ∙ sym k) in
+        ap (ofBits binary64) (sym q) ∙ ofBits-toBits binary64 x F
+
+    go : Reading single b → ofBits binary64 (widened single double b) ≡ ofBits binary32 b
+    go (is-finite e m) = number (subst Number (sym m) tt)
+    go (is-infinite e z m) = number (subst Number (sym m) tt)
+    go (is-nan e z m) =
+        nan-value binary64 (widened single double b) (negative single b) (quieted double (fraction single b * 2 ^ (double .fractionBits - single .fractionBits))) (widened-nan single double b (negative single b) (fraction single b) (lit< tt) m)
+        ∙ sym (nan-value binary32 b (negative single b) (fraction single b) m)
+
+-- what narrows is the same float
+pub narrowed-value : (b q : ℕ) → b < 2 * signWeight double → narrowed double single b ≡ exact q → ofBits binary32 q ≡ ofBits binary64 b
+narrowed-value b q B h = sym (widened-value q) ∙ ap (ofBits binary64) (widened-narrowed single-double b q B h)
+
+-- a binary64 value that binary32 holds narrows, to its own pattern there
+pub value-narrows : (x : Float) → T (fits binary32 x) → T (not (isNan x)) → narrowed double single (toBits binary64 x) ≡ exact (toBits binary32 x)
+value-narrows x F n =
+    let G : T (fits binary64 x) = fits-widens x F in
+    let k : Number (floatMeaning x) = number-float x n in
+    let d : meaning double (toBits binary64 x) ≡ floatMeaning x = plain-number (meaning double (toBits binary64 x)) (floatMeaning x) (toBits-means binary64 x G ∙ sym (plain-is (floatMeaning x) k)) k in
+    let s : meaning single (toBits binary32 x) ≡ floatMeaning x = plain-number (meaning single (toBits binary32 x)) (floatMeaning x) (toBits-means binary32 x F ∙ sym (plain-is (floatMeaning x) k)) k in
+    narrowed-complete double single (toBits binary64 x) (toBits binary32 x) (toBits-lt binary32 x F, subst Number (sym d) k, s ∙ sym d)
