@@ -1,8 +1,9 @@
 -- What the branches of the code come to, once for every pair of formats: each lemma takes a branch's tests and gives what `narrowed` or `widened` answers there.
 use mathlib.Core.Path.{_≡_, refl, sym, ap, _∙_, subst}
+use mathlib.Core.Logic.{_⊎_, inl, inr}
 use mathlib.Core.Bool.{Bool, true, false, cond}
 use Prim.Native.Nat.{ℕ, zero, suc, _+_, _-_, _*_, _/_, _%_, _^_, _≤_, _<_}
-use native.Mathlib.Nat.{suc-mul, le-of-lt, lt-of-le-of-lt, mul-le-mul-right, pow-suc, le-of-eq, le-trans, le-of-mul-le-mul-right, mul-assoc, mul-comm, mul-mod-left, div-add-mod', add-zero, mul-one, lt-of-lt-of-le, div-mul-le-self, mod-eq-of-lt, mul-div-cancel, zero-add, zero-mul}
+use native.Mathlib.Nat.{eq-or-lt-of-le, suc-mul, le-of-lt, lt-of-le-of-lt, mul-le-mul-right, pow-suc, le-of-eq, le-trans, le-of-mul-le-mul-right, mul-assoc, mul-comm, mul-mod-left, div-add-mod', add-zero, mul-one, lt-of-lt-of-le, div-mul-le-self, mod-eq-of-lt, mul-div-cancel, zero-add, zero-mul}
 use native.Mathlib.Omega.{arith}
 use lib.Arith.{digits-div}
 use lib.Dec.{leb}
@@ -12,8 +13,8 @@ use borrow.Author.Tests.{leb-true, leb-false}
 use Rattle.binary.specs.Formats.{Layout, leading, signWeight, allOnes, negative, exponent, fraction, magnitude}
 use Rattle.binary.specs.Conversions.{signed, candidate, widened, exact, lost, narrowed}
 use Rattle.binary.proofs.Smallests.{pow-lt-back, raised-le, raised-lt, Origin, from-zero, from-subnormal, from-normal}
-use Rattle.binary.proofs.Patterns.{rest-lt, fraction-lt, candidate-is}
-use Rattle.binary.proofs.Narrowing.{gives, loses}
+use Rattle.binary.proofs.Patterns.{rest-lt, exponent-le, fraction-lt, candidate-is}
+use Rattle.binary.proofs.Narrowing.{gives, loses, loses-nan}
 use Rattle.binary.proofs.Widths.{Widens, kept-normal, kept-subnormal, kept-zero, lifted, comes-from}
 
 -- ---- the sign, moved from its weight in one format to its weight in another
@@ -98,7 +99,7 @@ module _ {narrow wide : Layout} (W : Widens narrow wide) (b : ℕ) where
       go e t E (from-normal a x y) = n (ap (λ (k : ℕ). k % 2 ^ W .more) y ∙ mul-mod-left t (2 ^ W .more))
 
   -- too large
-  pub high-lost : allOnes narrow + W .lift ≤ exponent wide b → exponent wide b < allOnes wide → narrowed wide narrow b ≡ lost
+  high-lost : allOnes narrow + W .lift ≤ exponent wide b → exponent wide b < allOnes wide → narrowed wide narrow b ≡ lost
   high-lost hi F = narrow-none F go
     where
       lo : W .lift < exponent wide b
@@ -111,6 +112,14 @@ module _ {narrow wide : Layout} (W : Widens narrow wide) (b : ℕ) where
       go e t E (from-zero a z x y) = above-zero (exponent wide b) (W .lift) lo x
       go e t E (from-subnormal a j j1 jp x y) = above (exponent wide b) j (W .lift) lo j1 x
       go e t E (from-normal a x y) = under e E x
+
+  -- too large, or a NaN
+  pub top-lost : allOnes narrow + W .lift ≤ exponent wide b → (exponent wide b ≡ allOnes wide → fraction wide b ≡ 0 → ⊥) → narrowed wide narrow b ≡ lost
+  top-lost hi n = go (eq-or-lt-of-le (exponent-le wide b))
+    where
+      go : (exponent wide b ≡ allOnes wide) ⊎ (exponent wide b < allOnes wide) → narrowed wide narrow b ≡ lost
+      go (inl e) = loses-nan wide narrow b e (n e)
+      go (inr l) = high-lost hi l
 
   -- A subnormal number of the narrower format: of the significand, `down` digits are dropped, and they are zeros.
   module _ (down : ℕ) (is : down + exponent wide b ≡ suc (W .lift) + W .more) (below : exponent wide b ≤ W .lift) (near : W .lift < exponent wide b + narrow .fractionBits) where

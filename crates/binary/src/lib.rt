@@ -96,21 +96,21 @@ pub fn f32_to_f16_bits(b: u32) -> Narrowed16
     ensures { λ r. ⌜ r ≡ answer16 (narrowed single half b) ⌝ }
 {
     let sign = b / 0x8000_0000 * 0x8000;
-    let exponent = b % 0x8000_0000 / 0x80_0000;
+    let rest = b % 0x8000_0000;
+    let exponent = rest / 0x80_0000;
     let fraction = b % 0x80_0000;
     if 112 < exponent {
         if exponent < 143 {
             if fraction % 0x2000 == 0 {
-                let rest = (exponent - 112) * 0x400 + fraction / 0x2000;
-                return Narrowed16::Pattern((sign + rest) as u16);
+                let moved = (exponent - 112) * 0x400 + fraction / 0x2000;
+                let pattern = (sign + moved) as u16;
+                return Narrowed16::Pattern(pattern);
             }
             return Narrowed16::None;
         }
-        if exponent < 255 {
-            return Narrowed16::None;
-        }
-        if fraction == 0 {
-            return Narrowed16::Pattern((sign + 0x7C00) as u16);
+        if rest == 0x7F80_0000 {
+            let pattern = (sign + 0x7C00) as u16;
+            return Narrowed16::Pattern(pattern);
         }
         return Narrowed16::None;
     }
@@ -119,12 +119,14 @@ pub fn f32_to_f16_bits(b: u32) -> Narrowed16
         let down = 126 - exponent;
         let kept = significand >> down;
         if kept << down == significand {
-            return Narrowed16::Pattern((sign + kept) as u16);
+            let pattern = (sign + kept) as u16;
+            return Narrowed16::Pattern(pattern);
         }
         return Narrowed16::None;
     }
-    if b % 0x8000_0000 == 0 {
-        return Narrowed16::Pattern(sign as u16);
+    if rest == 0 {
+        let pattern = sign as u16;
+        return Narrowed16::Pattern(pattern);
     }
     Narrowed16::None
 }
@@ -134,21 +136,21 @@ pub fn f64_to_f32_bits(b: u64) -> Narrowed32
     ensures { λ r. ⌜ r ≡ answer32 (narrowed double single b) ⌝ }
 {
     let sign = b / 0x8000_0000_0000_0000 * 0x8000_0000;
-    let exponent = b % 0x8000_0000_0000_0000 / 0x10_0000_0000_0000;
+    let rest = b % 0x8000_0000_0000_0000;
+    let exponent = rest / 0x10_0000_0000_0000;
     let fraction = b % 0x10_0000_0000_0000;
     if 896 < exponent {
         if exponent < 1151 {
             if fraction % 0x2000_0000 == 0 {
-                let rest = (exponent - 896) * 0x80_0000 + fraction / 0x2000_0000;
-                return Narrowed32::Pattern((sign + rest) as u32);
+                let moved = (exponent - 896) * 0x80_0000 + fraction / 0x2000_0000;
+                let pattern = (sign + moved) as u32;
+                return Narrowed32::Pattern(pattern);
             }
             return Narrowed32::None;
         }
-        if exponent < 2047 {
-            return Narrowed32::None;
-        }
-        if fraction == 0 {
-            return Narrowed32::Pattern((sign + 0x7F80_0000) as u32);
+        if rest == 0x7FF0_0000_0000_0000 {
+            let pattern = (sign + 0x7F80_0000) as u32;
+            return Narrowed32::Pattern(pattern);
         }
         return Narrowed32::None;
     }
@@ -157,12 +159,14 @@ pub fn f64_to_f32_bits(b: u64) -> Narrowed32
         let down = 926 - exponent;
         let kept = significand >> down;
         if kept << down == significand {
-            return Narrowed32::Pattern((sign + kept) as u32);
+            let pattern = (sign + kept) as u32;
+            return Narrowed32::Pattern(pattern);
         }
         return Narrowed32::None;
     }
-    if b % 0x8000_0000_0000_0000 == 0 {
-        return Narrowed32::Pattern(sign as u32);
+    if rest == 0 {
+        let pattern = sign as u32;
+        return Narrowed32::Pattern(pattern);
     }
     Narrowed32::None
 }
