@@ -1,0 +1,224 @@
+-- The logic's own account of `f32` and `f64` agrees with the formats of this crate: what `ofBits` reads from a pattern has the pattern's sign and magnitude, is the same infinity, or is the NaN exactly at a NaN's pattern.
+-- Rests on `lib.Ieee`: that `odd` keeps its value, and that what is read fits its format.
+use mathlib.Core.Path.{_≡_, refl, sym, ap, _∙_, subst}
+use mathlib.Core.Bool.{Bool, true, false, not, cond, _&&_}
+use Prim.Native.Nat.{ℕ, zero, suc, _+_, _-_, _*_, _/_, _%_, _^_, _≤_, _<_}
+use native.Mathlib.Nat.{mul-assoc, mul-comm, mul-one, mul-right-comm, eq-of-mul-eq-mul-right, le-refl, le-trans}
+use native.Mathlib.Omega.{arith}
+use lib.Dec.{T, leb, ltb, eqb, lit≤, lit<, leb→le, eqb→eq}
+use lib.IntN.{ℤ, pos, negsuc}
+use lib.Pow.{pow-add, pow-pos, pow-lt, pow-mono}
+use lib.Ieee.{Float, Format, binary32, binary64, prec, emax, low, up, down, hid, ones, top, odd, fits, isNan, ofFields, ofBits, toBits}
+use lib.Ieee as I
+use lib.Ieee.Bits.{ofBits-fits, ofBits-toBits, toBits-lt}
+use lib.Ieee.Exact.{HasValue, odd-sign}
+use lib.Ieee.Fits.{and-l, and-r, down-pos, fits-widens}
+use borrow.Author.Tests.{leb-true, leb-false}
+use Rattle.binary.specs.Formats.{Layout, single, double, leading, signWeight, allOnes, unit, negative, exponent, fraction, smallests, magnitude, Meaning, finite, infinite, nan, meaning, Number}
+use Rattle.binary.specs.Conversions.{quieted, widened, exact, narrowed}
+use Rattle.binary.specs.Floats.{layoutOf, unitsOf, floatMeaning, plain}
+use Rattle.binary.proofs.Patterns.{meant, meaning-is, meant-finite, Reading, is-finite, is-infinite, is-nan, reading, one-pattern}
+use Rattle.binary.proofs.Widths.{single-double}
+use Rattle.binary.proofs.Laws.{narrowed-complete, widened-lt, widened-keeps, widened-narrowed, widened-nan}
+
+-- ---- a float that is a fraction of 2 ^ l, in units of 2 ^ -1074
+
+clash : (a b : ℕ) → a ≤ b → b < a → ⊥
+clash a b p q = omega arith
+
+not-above : (k : ℕ) (t : Bool) → leb k 1074 ≡ t → 2 ^ k ≤ 2 ^ 1074 → k ≤ 1074
+not-above k true e p = leb-true k 1074 e
+not-above k false e p = absurd (clash (2 ^ k) (2 ^ 1074) p (pow-lt (leb-false k 1074 e)))
+
+scale : (m : ℕ) (e : ℤ) → down e ≤ 2 ^ 1074 → unitsOf m e * down e ≡ m * up e * 2 ^ 1074
+scale m (pos k) h = mul-one (m * 2 ^ (1074 + k)) ∙ ap (λ (x : ℕ). m * x) (pow-add 2 1074 k ∙ mul-comm (2 ^ 1074) (2 ^ k)) ∙ sym (mul-assoc m (2 ^ k) (2 ^ 1074))
+scale m (negsuc j) h =
+    let l : suc j ≤ 1074 = not-above (suc j) (leb (suc j) 1074) refl h in
+    let e : 1073 - j + suc j ≡ 1074 = omega arith in
+    mul-assoc m (2 ^ (1073 - j)) (2 ^ suc j)
+    ∙ ap (λ (x : ℕ). m * x) (sym (pow-add 2 (1073 - j) (suc j)) ∙ ap (λ (x : ℕ). 2 ^ x) e)
+    ∙ ap (λ (x : ℕ). x * 2 ^ 1074) (sym (mul-one m))
+
+-- the exponent of a float is no lower than that of the smallest unit
+abbrev Fine : Float → Type 0
+Fine I.nan = Unit {0}
+Fine (I.inf s) = Unit {0}
+Fine (I.fin s m e) = down e ≤ 2 ^ 1074
+
+one-le : (x p : ℕ) → 1 * x ≡ 1 → 0 < p → x ≤ p
+one-le x p e h = omega arith
+
+low-ok : (f : Format) → 2 ^ low f ≤ 2 ^ 1074
+low-ok binary32 = pow-mono {i = 149} {j = 1074} (lit≤ tt)
+low-ok binary64 = le-refl (2 ^ 1074)
+
+fine : (f : Format) (x : Float) → T (fits f x) → Fine x
+unfolding fits
+fine f I.nan t = tt
+fine f (I.inf s) t = tt
+fine f (I.fin s zero (pos k)) t = lit≤ tt
+fine f (I.fin s zero (negsuc k)) t = one-le (2 ^ suc k) (2 ^ 1074) (eqb→eq (1 * 2 ^ suc k) 1 t) (pow-pos 1074)
+fine f (I.fin s (suc m) e) t =
+    le-trans (leb→le (down e) (2 ^ low f)
+    (and-r (eqb (suc m % 2) 1 && ltb (suc m) (2 ^ prec f)) (leb (down e) (2 ^ low f))
+    (and-l (eqb (suc m % 2) 1 && ltb (suc m) (2 ^ prec f) && leb (down e) (2 ^ low f)) (ltb (suc m * up e) (2 ^ suc (emax f) * down e)) t)))
+    (low-ok f)
+
+counted : (l j m n : ℕ) (e : ℤ) → l + j ≡ 1074 → down e ≤ 2 ^ 1074 → m * up e * 2 ^ l ≡ n * down e → unitsOf m e ≡ n * 2 ^ j
+counted l j m n e L d h =
+    eq-of-mul-eq-mul-right (down e) (down-pos e) (unitsOf m e) (n * 2 ^ j)
+    (scale m e d
+    ∙ ap (λ (x : ℕ). m * up e * x) (ap (λ (x : ℕ). 2 ^ x) (sym L) ∙ pow-add 2 l j)
+    ∙ sym (mul-assoc (m * up e) (2 ^ l) (2 ^ j))
+    ∙ ap (λ (x : ℕ). x * 2 ^ j) h
+    ∙ mul-right-comm n (down e) (2 ^ j))
+
+value-means : (x : Float) (s : Bool) (n l j : ℕ) → l + j ≡ 1074 → Fine x → HasValue x s n (2 ^ l) → floatMeaning x ≡ finite s (n * 2 ^ j)
+unfolding floatMeaning
+value-means I.nan s n l j L d h = absurd h
+value-means (I.inf t) s n l j L d h = absurd h
+value-means (I.fin t m e) s n l j L d h = ap (λ (b : Bool). finite b (unitsOf m e)) (h .0) ∙ ap (finite s) (counted l j m n e L d (h .1))
+
+-- ---- what the fields are read as
+
+low-unit : (f : Format) → low f + unit (layoutOf f) ≡ 1074
+low-unit binary32 = refl
+low-unit binary64 = refl
+
+same-ones : (f : Format) → ones f ≡ allOnes (layoutOf f)
+same-ones binary32 = refl
+same-ones binary64 = refl
+
+same-lead : (f : Format) → hid f ≡ leading (layoutOf f)
+same-lead binary32 = refl
+same-lead binary64 = refl
+
+same-sign : (f : Format) → top f ≡ signWeight (layoutOf f)
+same-sign binary32 = refl
+same-sign binary64 = refl
+
+some-ones : (f : Format) → 0 < allOnes (layoutOf f)
+some-ones binary32 = lit< tt
+some-ones binary64 = lit< tt
+
+by-tests : (a b : Bool) (s : Bool) (t : ℕ) (x : Float) (y : Meaning) → (a ≡ false → floatMeaning x ≡ plain y)
+    → floatMeaning (cond a (cond b (I.inf s) I.nan) x) ≡ plain (cond a (cond b (infinite s) (nan s t)) y)
+unfolding floatMeaning
+by-tests true true s t x y h = refl
+by-tests true false s t x y h = refl
+by-tests false b s t x y h = h refl
+
+fits-inside : (f : Format) (a b : Bool) (s : Bool) (x : Float) → a ≡ false → T (fits f (cond a (cond b (I.inf s) I.nan) x)) → T (fits f x)
+fits-inside f a b s x e F = subst (λ (c : Bool). T (fits f (cond c (cond b (I.inf s) I.nan) x))) e F
+
+low-means : (f : Format) (s : Bool) (q x : ℕ) → T (fits f (odd (prec f) s q x (low f))) → floatMeaning (odd (prec f) s q x (low f)) ≡ finite s (q * 2 ^ x * 2 ^ unit (layoutOf f))
+low-means f s q x F =
+    value-means (odd (prec f) s q x (low f)) s (q * 2 ^ x) (low f) (unit (layoutOf f)) (low-unit f) (fine f (odd (prec f) s q x (low f)) F) (odd-sign (prec f) s q x (low f))
+
+fields-mean : (f : Format) (s : Bool) (x t : ℕ) → T (fits f (ofFields f s x t)) → floatMeaning (ofFields f s x t) ≡ plain (meant (layoutOf f) s x t)
+unfolding ofFields smallests
+fields-mean f s zero t F =
+    low-means f s t 0 F
+    ∙ ap (λ (n : ℕ). finite s (n * 2 ^ unit (layoutOf f))) (mul-one t)
+    ∙ sym (ap plain (meant-finite (layoutOf f) s 0 t (some-ones f)))
+fields-mean f s (suc x) t F =
+    let o = odd (prec f) s (hid f + t) x (low f) in
+    by-tests (eqb (suc x) (ones f)) (eqb t 0) s t o (finite s (magnitude (layoutOf f) (suc x) t))
+    (λ e. low-means f s (hid f + t) x (fits-inside f (eqb (suc x) (ones f)) (eqb t 0) s o e F) ∙ ap (λ (h : ℕ). finite s ((h + t) * 2 ^ x * 2 ^ unit (layoutOf f))) (same-lead f))
+    ∙ ap (λ (n : ℕ). plain (cond (eqb (suc x) n) (cond (eqb t 0) (infinite s) (nan s t)) (finite s (magnitude (layoutOf f) (suc x) t)))) (same-ones f)
+
+fields-are : (f : Format) (b : ℕ) → ofBits f b ≡ ofFields f (leb (top f) b) (b % top f / hid f) (b % hid f)
+unfolding ofBits
+fields-are f b = refl
+
+-- the tie: what the logic reads from a pattern is what the pattern means
+pub ofBits-means : (f : Format) (b : ℕ) → floatMeaning (ofBits f b) ≡ plain (meaning (layoutOf f) b)
+ofBits-means f b =
+    ap floatMeaning (fields-are f b)
+    ∙ fields-mean f (leb (top f) b) (b % top f / hid f) (b % hid f) (subst (λ (x : Float). T (fits f x)) (fields-are f b) (ofBits-fits f b))
+    ∙ ap (λ (w : ℕ). plain (meant (layoutOf f) (leb w b) (b % w / hid f) (b % hid f))) (same-sign f)
+    ∙ ap (λ (h : ℕ). plain (meant (layoutOf f) (negative (layoutOf f) b) (b % signWeight (layoutOf f) / h) (b % h))) (same-lead f)
+    ∙ sym (ap plain (meaning-is (layoutOf f) b))
+
+-- ---- so a float that fits has the pattern that means it
+
+pub toBits-means : (f : Format) (x : Float) → T (fits f x) → plain (meaning (layoutOf f) (toBits f x)) ≡ floatMeaning x
+toBits-means f x F = sym (ofBits-means f (toBits f x)) ∙ ap floatMeaning (ofBits-toBits f x F)
+
+differ : (s : Bool) (m : ℕ) → nan false 0 ≡ finite s m → ⊥
+differ s m h = let z : _≡_ {A = ℕ} 0 1 = cc in omega arith
+
+differ' : (s : Bool) → nan false 0 ≡ infinite s → ⊥
+differ' s h = let z : _≡_ {A = ℕ} 0 1 = cc in omega arith
+
+plain-number : (y z : Meaning) → plain y ≡ plain z → Number z → y ≡ z
+plain-number (finite s m) (finite t n) h k = h
+plain-number (finite s m) (infinite t) h k = h
+plain-number (infinite s) (finite t n) h k = h
+plain-number (infinite s) (infinite t) h k = h
+plain-number (nan s m) (finite t n) h k = absurd (differ t n h)
+plain-number (nan s m) (infinite t) h k = absurd (differ' t h)
+plain-number y (nan t n) h k = absurd k
+
+plain-is : (y : Meaning) → Number y → plain y ≡ y
+plain-is (finite s m) k = refl
+plain-is (infinite s) k = refl
+plain-is (nan s t) k = absurd k
+
+nan-float : (x : Float) → floatMeaning x ≡ nan false 0 → x ≡ I.nan
+unfolding floatMeaning
+nan-float I.nan h = refl
+nan-float (I.inf s) h = absurd (differ' s (sym h))
+nan-float (I.fin s m e) h = absurd (differ s (unitsOf m e) (sym h))
+
+-- a NaN's pattern is read as the NaN, and no other is
+pub nan-value : (f : Format) (b : ℕ) (s : Bool) (t : ℕ) → meaning (layoutOf f) b ≡ nan s t → ofBits f b ≡ I.nan
+nan-value f b s t h = nan-float (ofBits f b) (ofBits-means f b ∙ ap plain h)
+
+number-float : (x : Float) → T (not (isNan x)) → Number (floatMeaning x)
+unfolding isNan floatMeaning
+number-float I.nan h = h
+number-float (I.inf s) h = tt
+number-float (I.fin s m e) h = tt
+
+-- a number's pattern is the one that means it
+pub pattern-of : (f : Format) (x : Float) (b : ℕ) → T (fits f x) → b < 2 * signWeight (layoutOf f) → Number (meaning (layoutOf f) b) → floatMeaning x ≡ meaning (layoutOf f) b → toBits f x ≡ b
+pattern-of f x b F B n h =
+    one-pattern (layoutOf f) (toBits f x) b (subst (λ (w : ℕ). toBits f x < 2 * w) (same-sign f) (toBits-lt f x F)) B
+    (plain-number (meaning (layoutOf f) (toBits f x)) (meaning (layoutOf f) b) (toBits-means f x F ∙ h ∙ sym (plain-is (meaning (layoutOf f) b) n)) n)
+
+-- ---- the two widths of a value
+
+-- widening a pattern keeps the float that it is read as, a NaN's too
+pub widened-value : (b : ℕ) → ofBits binary64 (widened single double b) ≡ ofBits binary32 b
+widened-value b = go (reading single b)
+  where
+    number : Number (meaning single b) → ofBits binary64 (widened single double b) ≡ ofBits binary32 b
+    number n =
+        let x = ofBits binary32 b in
+        let F : T (fits binary64 x) = fits-widens x (ofBits-fits binary32 b) in
+        let w = widened single double b in
+        let k : meaning double w ≡ meaning single b = widened-keeps single-double b n in
+        let m : Number (meaning double w) = subst Number (sym k) n in
+        let q : toBits binary64 x ≡ w = pattern-of binary64 x w F (widened-lt single-double b n) m (ofBits-means binary32 b ∙ plain-is (meaning single b) n ∙ sym k) in
+        ap (ofBits binary64) (sym q) ∙ ofBits-toBits binary64 x F
+
+    go : Reading single b → ofBits binary64 (widened single double b) ≡ ofBits binary32 b
+    go (is-finite e m) = number (subst Number (sym m) tt)
+    go (is-infinite e z m) = number (subst Number (sym m) tt)
+    go (is-nan e z m) =
+        nan-value binary64 (widened single double b) (negative single b) (quieted double (fraction single b * 2 ^ (double .fractionBits - single .fractionBits))) (widened-nan single double b (negative single b) (fraction single b) (lit< tt) m)
+        ∙ sym (nan-value binary32 b (negative single b) (fraction single b) m)
+
+-- what narrows is the same float
+pub narrowed-value : (b q : ℕ) → b < 2 * signWeight double → narrowed double single b ≡ exact q → ofBits binary32 q ≡ ofBits binary64 b
+narrowed-value b q B h = sym (widened-value q) ∙ ap (ofBits binary64) (widened-narrowed single-double b q B h)
+
+-- a binary64 value that binary32 holds narrows, to its own pattern there
+pub value-narrows : (x : Float) → T (fits binary32 x) → T (not (isNan x)) → narrowed double single (toBits binary64 x) ≡ exact (toBits binary32 x)
+value-narrows x F n =
+    let G : T (fits binary64 x) = fits-widens x F in
+    let k : Number (floatMeaning x) = number-float x n in
+    let d : meaning double (toBits binary64 x) ≡ floatMeaning x = plain-number (meaning double (toBits binary64 x)) (floatMeaning x) (toBits-means binary64 x G ∙ sym (plain-is (floatMeaning x) k)) k in
+    let s : meaning single (toBits binary32 x) ≡ floatMeaning x = plain-number (meaning single (toBits binary32 x)) (floatMeaning x) (toBits-means binary32 x F ∙ sym (plain-is (floatMeaning x) k)) k in
+    narrowed-complete double single (toBits binary64 x) (toBits binary32 x) (toBits-lt binary32 x F, subst Number (sym d) k, s ∙ sym d)
