@@ -126,6 +126,19 @@ widened-nan from to b s t p h =
     ∙ meaning-signed to s (allOnes to) u (le-of-eq refl) l
     ∙ meant-nan to s (allOnes to) u refl (quieted-pos (2 ^ (to .fractionBits - 1)) (t * 2 ^ (to .fractionBits - from .fractionBits) % 2 ^ (to .fractionBits - 1)) (pow-pos (to .fractionBits - 1)))
 
+-- a widened pattern, a NaN's too, is one of the wider format
+pub widened-in : {narrow wide : Layout} (W : Widens narrow wide) → 0 < wide .fractionBits → (b : ℕ) → widened narrow wide b < 2 * signWeight wide
+widened-in {narrow} {wide} W p b = go (reading narrow b)
+  where
+    go : Reading narrow b → widened narrow wide b < 2 * signWeight wide
+    go (is-finite e m) = widened-lt W b (subst Number (sym m) tt)
+    go (is-infinite e z m) = widened-lt W b (subst Number (sym m) tt)
+    go (is-nan e n m) =
+        let s = negative narrow b in
+        let x = fraction narrow b * 2 ^ (wide .fractionBits - narrow .fractionBits) in
+        rw (widened-by narrow wide b (nan s (fraction narrow b)) m)
+        (signed-lt wide s (infinity wide + quieted wide x) (rest-lt wide (allOnes wide) (quieted wide x) (le-of-eq refl) (quieted-lt (wide .fractionBits) x p)))
+
 -- ---- from the code's answers to the definition's
 
 pub exact16 : (n : Narrowed) (q : ℕ) → answer16 n ≡ N16.the-variants.Pattern q → n ≡ exact q

@@ -14,11 +14,11 @@ use lib.Ieee.Bits.{ofBits-fits, ofBits-toBits, toBits-lt}
 use lib.Ieee.Exact.{HasValue, odd-sign}
 use lib.Ieee.Fits.{and-l, and-r, down-pos, fits-widens}
 use borrow.Author.Tests.{leb-true, leb-false}
-use Rattle.binary.specs.Formats.{single, double, leading, signWeight, allOnes, unit, negative, exponent, fraction, smallests, magnitude, Meaning, finite, infinite, nan, meaning, Number}
+use Rattle.binary.specs.Formats.{half, single, double, leading, signWeight, allOnes, unit, negative, exponent, fraction, smallests, magnitude, Meaning, finite, infinite, nan, meaning, Number}
 use Rattle.binary.specs.Conversions.{quieted, widened, exact, narrowed}
 use Rattle.binary.specs.Floats.{layoutOf, unitsOf, floatMeaning, plain}
 use Rattle.binary.proofs.Patterns.{meant, meaning-is, meant-finite, Reading, is-finite, is-infinite, is-nan, reading, one-pattern}
-use Rattle.binary.proofs.Widths.{single-double}
+use Rattle.binary.proofs.Widths.{half-single, single-double}
 use Rattle.binary.proofs.Laws.{narrowed-complete, widened-lt, widened-keeps, widened-narrowed, widened-nan}
 
 -- ---- a float that is a fraction of 2 ^ l, in units of 2 ^ -1074
@@ -222,3 +222,13 @@ value-narrows x F n =
     let d : meaning double (toBits binary64 x) ≡ floatMeaning x = plain-number (meaning double (toBits binary64 x)) (floatMeaning x) (toBits-means binary64 x G ∙ sym (plain-is (floatMeaning x) k)) k in
     let s : meaning single (toBits binary32 x) ≡ floatMeaning x = plain-number (meaning single (toBits binary32 x)) (floatMeaning x) (toBits-means binary32 x F ∙ sym (plain-is (floatMeaning x) k)) k in
     narrowed-complete double single (toBits binary64 x) (toBits binary32 x) (toBits-lt binary32 x F, subst Number (sym d) k, s ∙ sym d)
+
+-- ---- a binary16 pattern is read through binary32
+
+pub half-value : (h : ℕ) → floatMeaning (ofBits binary32 (widened half single h)) ≡ plain (meaning half h)
+half-value h = ofBits-means binary32 (widened half single h) ∙ go (reading half h)
+  where
+    go : Reading half h → plain (meaning single (widened half single h)) ≡ plain (meaning half h)
+    go (is-finite e m) = ap plain (widened-keeps half-single h (subst Number (sym m) tt))
+    go (is-infinite e z m) = ap plain (widened-keeps half-single h (subst Number (sym m) tt))
+    go (is-nan e n m) = ap plain (widened-nan half single h (negative half h) (fraction half h) (lit< tt) m) ∙ sym (ap plain m)
