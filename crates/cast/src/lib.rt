@@ -1,0 +1,324 @@
+// Checked casts, equality and zero of an integer, after `impl Integer` of format.rs. Document 01, "Casts": each cast goes
+// by variant, and refuses with 8 what its type does not hold.
+ghost use mathlib.Core.Path.{_≡_};
+ghost use lib.IntN.{pos};
+ghost use Rattle.cast.specs.Variants.{isZero, equalIntegers, wideOf};
+ghost use Rattle.cast.specs.Casts.{asI8, asI16, asI32, asI64, asI128, asU8, asU16, asU32, asU64, asU128};
+ghost use Rattle.cast.specs.Casts.{asF32, asF64, asFloat};
+use types::AsF32;
+use types::AsF64;
+use types::AsFloat;
+use types::AsI8;
+use types::AsI16;
+use types::AsI32;
+use types::AsI64;
+use types::AsU8;
+use types::AsU16;
+use types::AsU32;
+use types::AsU64;
+use types::AsWide;
+use types::Float;
+use types::Integer;
+use types::Refusal;
+use types::Wide;
+
+// The two words of a signed number.
+fn wide_of_i64(value: i64) -> Wide
+    ensures { λ r. ⌜ r ≡ wideOf value ⌝ }
+{
+    if 0 <= value {
+        return Wide {
+            lo: value as u64,
+            hi: 0,
+        };
+    }
+    Wide {
+        lo: !((!value) as u64),
+        hi: 0xFFFF_FFFF_FFFF_FFFF,
+    }
+}
+
+// The two words of an unsigned number.
+fn wide_of_u64(value: u64) -> Wide
+    ensures { λ r. ⌜ r ≡ wideOf (pos value) ⌝ }
+{
+    Wide { lo: value, hi: 0 }
+}
+
+// The value as an i8, or refusal 8 if it does not fit.
+pub fn as_i8(x: Integer) -> AsI8
+    ensures { λ r. ⌜ r ≡ asI8 x ⌝ }
+{
+    match x {
+        Integer::I8(value) => return AsI8::Value(value),
+        Integer::U8(value) => {
+            if value <= 0x7F {
+                return AsI8::Value(value as i8);
+            }
+            return AsI8::Refused(Refusal::ImpreciseCastWouldLoseData);
+        }
+        Integer::I16(_)
+        | Integer::U16(_)
+        | Integer::I32(_)
+        | Integer::U32(_)
+        | Integer::I64(_)
+        | Integer::U64(_)
+        | Integer::I128(_)
+        | Integer::U128(_) => return AsI8::Refused(Refusal::ImpreciseCastWouldLoseData),
+    }
+}
+
+// The value as an u8, or refusal 8 if it does not fit.
+pub fn as_u8(x: Integer) -> AsU8
+    ensures { λ r. ⌜ r ≡ asU8 x ⌝ }
+{
+    match x {
+        Integer::U8(value) => return AsU8::Value(value),
+        Integer::I8(value) => {
+            if 0 <= value {
+                return AsU8::Value(value as u8);
+            }
+            return AsU8::Refused(Refusal::ImpreciseCastWouldLoseData);
+        }
+        Integer::I16(_)
+        | Integer::U16(_)
+        | Integer::I32(_)
+        | Integer::U32(_)
+        | Integer::I64(_)
+        | Integer::U64(_)
+        | Integer::I128(_)
+        | Integer::U128(_) => return AsU8::Refused(Refusal::ImpreciseCastWouldLoseData),
+    }
+}
+
+// The value as an i16, or refusal 8 if it does not fit.
+pub fn as_i16(x: Integer) -> AsI16
+    ensures { λ r. ⌜ r ≡ asI16 x ⌝ }
+{
+    match x {
+        Integer::I8(value) => return AsI16::Value(value as i16),
+        Integer::U8(value) => return AsI16::Value(value as i16),
+        Integer::I16(value) => return AsI16::Value(value),
+        Integer::U16(value) => {
+            if value <= 0x7FFF {
+                return AsI16::Value(value as i16);
+            }
+            return AsI16::Refused(Refusal::ImpreciseCastWouldLoseData);
+        }
+        Integer::I32(_)
+        | Integer::U32(_)
+        | Integer::I64(_)
+        | Integer::U64(_)
+        | Integer::I128(_)
+        | Integer::U128(_) => return AsI16::Refused(Refusal::ImpreciseCastWouldLoseData),
+    }
+}
+
+// The value as a u16, or refusal 8 if it does not fit.
+pub fn as_u16(x: Integer) -> AsU16
+    ensures { λ r. ⌜ r ≡ asU16 x ⌝ }
+{
+    match x {
+        Integer::I8(value) => {
+            if 0 <= value {
+                return AsU16::Value(value as u16);
+            }
+            return AsU16::Refused(Refusal::ImpreciseCastWouldLoseData);
+        }
+        Integer::U8(value) => return AsU16::Value(value as u16),
+        Integer::U16(value) => return AsU16::Value(value),
+        Integer::I16(value) => {
+            if 0 <= value {
+                return AsU16::Value(value as u16);
+            }
+            return AsU16::Refused(Refusal::ImpreciseCastWouldLoseData);
+        }
+        Integer::I32(_)
+        | Integer::U32(_)
+        | Integer::I64(_)
+        | Integer::U64(_)
+        | Integer::I128(_)
+        | Integer::U128(_) => return AsU16::Refused(Refusal::ImpreciseCastWouldLoseData),
+    }
+}
+
+// The value as an i32, or refusal 8 if it does not fit.
+pub fn as_i32(x: Integer) -> AsI32
+    ensures { λ r. ⌜ r ≡ asI32 x ⌝ }
+{
+    match x {
+        Integer::I8(value) => return AsI32::Value(value as i32),
+        Integer::U8(value) => return AsI32::Value(value as i32),
+        Integer::I16(value) => return AsI32::Value(value as i32),
+        Integer::U16(value) => return AsI32::Value(value as i32),
+        Integer::I32(value) => return AsI32::Value(value),
+        Integer::U32(value) => {
+            if value <= 0x7FFF_FFFF {
+                return AsI32::Value(value as i32);
+            }
+            return AsI32::Refused(Refusal::ImpreciseCastWouldLoseData);
+        }
+        Integer::I64(_) | Integer::U64(_) | Integer::I128(_) | Integer::U128(_) =>
+            return AsI32::Refused(Refusal::ImpreciseCastWouldLoseData),
+    }
+}
+
+// The value as a u32, or refusal 8 if it does not fit.
+pub fn as_u32(x: Integer) -> AsU32
+    ensures { λ r. ⌜ r ≡ asU32 x ⌝ }
+{
+    match x {
+        Integer::I8(value) => {
+            if 0 <= value {
+                return AsU32::Value(value as u32);
+            }
+            return AsU32::Refused(Refusal::ImpreciseCastWouldLoseData);
+        }
+        Integer::U8(value) => return AsU32::Value(value as u32),
+        Integer::I16(value) => {
+            if 0 <= value {
+                return AsU32::Value(value as u32);
+            }
+            return AsU32::Refused(Refusal::ImpreciseCastWouldLoseData);
+        }
+        Integer::U16(value) => return AsU32::Value(value as u32),
+        Integer::U32(value) => return AsU32::Value(value),
+        Integer::I32(value) => {
+            if 0 <= value {
+                return AsU32::Value(value as u32);
+            }
+            return AsU32::Refused(Refusal::ImpreciseCastWouldLoseData);
+        }
+        Integer::I64(_) | Integer::U64(_) | Integer::I128(_) | Integer::U128(_) =>
+            return AsU32::Refused(Refusal::ImpreciseCastWouldLoseData),
+    }
+}
+
+// The value as an i64, or refusal 8 if it does not fit.
+pub fn as_i64(x: Integer) -> AsI64
+    ensures { λ r. ⌜ r ≡ asI64 x ⌝ }
+{
+    match x {
+        Integer::I8(value) => return AsI64::Value(value as i64),
+        Integer::U8(value) => return AsI64::Value(value as i64),
+        Integer::I16(value) => return AsI64::Value(value as i64),
+        Integer::U16(value) => return AsI64::Value(value as i64),
+        Integer::I32(value) => return AsI64::Value(value as i64),
+        Integer::U32(value) => return AsI64::Value(value as i64),
+        Integer::I64(value) => return AsI64::Value(value),
+        Integer::U64(value) => {
+            if value <= 0x7FFF_FFFF_FFFF_FFFF {
+                return AsI64::Value(value as i64);
+            }
+            return AsI64::Refused(Refusal::ImpreciseCastWouldLoseData);
+        }
+        Integer::I128(_) | Integer::U128(_) => return AsI64::Refused(
+            Refusal::ImpreciseCastWouldLoseData,
+        ),
+    }
+}
+
+// The value as a u64, or refusal 8 if it does not fit.
+pub fn as_u64(x: Integer) -> AsU64
+    ensures { λ r. ⌜ r ≡ asU64 x ⌝ }
+{
+    match x {
+        Integer::I8(value) => {
+            if 0 <= value {
+                return AsU64::Value(value as u64);
+            }
+            return AsU64::Refused(Refusal::ImpreciseCastWouldLoseData);
+        }
+        Integer::U8(value) => return AsU64::Value(value as u64),
+        Integer::I16(value) => {
+            if 0 <= value {
+                return AsU64::Value(value as u64);
+            }
+            return AsU64::Refused(Refusal::ImpreciseCastWouldLoseData);
+        }
+        Integer::U16(value) => return AsU64::Value(value as u64),
+        Integer::I32(value) => {
+            if 0 <= value {
+                return AsU64::Value(value as u64);
+            }
+            return AsU64::Refused(Refusal::ImpreciseCastWouldLoseData);
+        }
+        Integer::U32(value) => return AsU64::Value(value as u64),
+        Integer::U64(value) => return AsU64::Value(value),
+        Integer::I64(value) => {
+            if 0 <= value {
+                return AsU64::Value(value as u64);
+            }
+            return AsU64::Refused(Refusal::ImpreciseCastWouldLoseData);
+        }
+        Integer::I128(_) | Integer::U128(_) => return AsU64::Refused(
+            Refusal::ImpreciseCastWouldLoseData,
+        ),
+    }
+}
+
+// The value as an i128, or refusal 8 if it does not fit.
+pub fn as_i128(x: Integer) -> AsWide
+    ensures { λ r. ⌜ r ≡ asI128 x ⌝ }
+{
+    match x {
+        Integer::I8(value) => return AsWide::Value(wide_of_i64(value as i64)),
+        Integer::U8(value) => return AsWide::Value(wide_of_u64(value as u64)),
+        Integer::I16(value) => return AsWide::Value(wide_of_i64(value as i64)),
+        Integer::U16(value) => return AsWide::Value(wide_of_u64(value as u64)),
+        Integer::I32(value) => return AsWide::Value(wide_of_i64(value as i64)),
+        Integer::U32(value) => return AsWide::Value(wide_of_u64(value as u64)),
+        Integer::I64(value) => return AsWide::Value(wide_of_i64(value)),
+        Integer::U64(value) => return AsWide::Value(wide_of_u64(value)),
+        Integer::I128(value) => return AsWide::Value(value),
+        Integer::U128(value) => {
+            if value.hi <= 0x7FFF_FFFF_FFFF_FFFF {
+                return AsWide::Value(value);
+            }
+            return AsWide::Refused(Refusal::ImpreciseCastWouldLoseData);
+        }
+    }
+}
+
+// The value as a u128, or refusal 8 if it does not fit.
+pub fn as_u128(x: Integer) -> AsWide
+    ensures { λ r. ⌜ r ≡ asU128 x ⌝ }
+{
+    match x {
+        Integer::I8(value) => {
+            if 0 <= value {
+                return AsWide::Value(wide_of_u64(value as u64));
+            }
+            return AsWide::Refused(Refusal::ImpreciseCastWouldLoseData);
+        }
+        Integer::U8(value) => return AsWide::Value(wide_of_u64(value as u64)),
+        Integer::I16(value) => {
+            if 0 <= value {
+                return AsWide::Value(wide_of_u64(value as u64));
+            }
+            return AsWide::Refused(Refusal::ImpreciseCastWouldLoseData);
+        }
+        Integer::U16(value) => return AsWide::Value(wide_of_u64(value as u64)),
+        Integer::I32(value) => {
+            if 0 <= value {
+                return AsWide::Value(wide_of_u64(value as u64));
+            }
+            return AsWide::Refused(Refusal::ImpreciseCastWouldLoseData);
+        }
+        Integer::U32(value) => return AsWide::Value(wide_of_u64(value as u64)),
+        Integer::I64(value) => {
+            if 0 <= value {
+                return AsWide::Value(wide_of_u64(value as u64));
+            }
+            return AsWide::Refused(Refusal::ImpreciseCastWouldLoseData);
+        }
+        Integer::U64(value) => return AsWide::Value(wide_of_u64(value)),
+        Integer::U128(value) => return AsWide::Value(value),
+        Integer::I128(value) => {
+            if value.hi <= 0x7FFF_FFFF_FFFF_FFFF {
+                return AsWide::Value(value);
+            }
+            return AsWide::Refused(Refusal::ImpreciseCastWouldLoseData);
+        }
+    }
+}
