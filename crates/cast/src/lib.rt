@@ -1,6 +1,8 @@
 // Checked casts, equality and zero of an integer, after `impl Integer` of format.rs. Document 01, "Casts": each cast goes
 // by variant, and refuses with 8 what its type does not hold.
 ghost use mathlib.Core.Path.{_≡_};
+ghost use mathlib.Core.Bool.{_&&_};
+ghost use lib.Dec.{eqb};
 ghost use lib.IntN.{pos};
 ghost use Rattle.cast.specs.Variants.{isZero, equalIntegers, wideOf};
 ghost use Rattle.cast.specs.Casts.{asI8, asI16, asI32, asI64, asI128, asU8, asU16, asU32, asU64, asU128};
@@ -21,6 +23,92 @@ use types::Float;
 use types::Integer;
 use types::Refusal;
 use types::Wide;
+
+// Whether the value is 0.
+pub fn is_zero(x: Integer) -> bool
+    ensures { λ r. ⌜ r ≡ isZero x ⌝ }
+{
+    match x {
+        Integer::I8(value) => return value == 0,
+        Integer::I16(value) => return value == 0,
+        Integer::I32(value) => return value == 0,
+        Integer::I64(value) => return value == 0,
+        Integer::I128(value) => {
+            if value.hi == 0 {
+                return value.lo == 0;
+            }
+            return false;
+        }
+        Integer::U8(value) => return value == 0,
+        Integer::U16(value) => return value == 0,
+        Integer::U32(value) => return value == 0,
+        Integer::U64(value) => return value == 0,
+        Integer::U128(value) => {
+            if value.hi == 0 {
+                return value.lo == 0;
+            }
+            return false;
+        }
+    }
+}
+
+// Whether the words are the same.
+fn same_words(a: Wide, b: Wide) -> bool
+    ensures { λ r. ⌜ r ≡ (eqb (a .hi) (b .hi) && eqb (a .lo) (b .lo)) ⌝ }
+{
+    if a.hi == b.hi {
+        return a.lo == b.lo;
+    }
+    false
+}
+
+// Whether variant and value are the same.
+pub fn equal(a: Integer, b: Integer) -> bool
+    ensures { λ r. ⌜ r ≡ equalIntegers a b ⌝ }
+{
+    match a {
+        Integer::I8(x) => match b {
+            Integer::I8(y) => return x == y,
+            _ => return false,
+        },
+        Integer::I16(x) => match b {
+            Integer::I16(y) => return x == y,
+            _ => return false,
+        },
+        Integer::I32(x) => match b {
+            Integer::I32(y) => return x == y,
+            _ => return false,
+        },
+        Integer::I64(x) => match b {
+            Integer::I64(y) => return x == y,
+            _ => return false,
+        },
+        Integer::I128(x) => match b {
+            Integer::I128(y) => return same_words(x, y),
+            _ => return false,
+        },
+        Integer::U8(x) => match b {
+            Integer::U8(y) => return x == y,
+            _ => return false,
+        },
+        Integer::U16(x) => match b {
+            Integer::U16(y) => return x == y,
+            _ => return false,
+        },
+        Integer::U32(x) => match b {
+            Integer::U32(y) => return x == y,
+            _ => return false,
+        },
+        Integer::U64(x) => match b {
+            Integer::U64(y) => return x == y,
+            _ => return false,
+        },
+        Integer::U128(x) => match b {
+            Integer::U128(y) => return same_words(x, y),
+            _ => return false,
+        },
+    }
+}
 
 // The two words of a signed number.
 fn wide_of_i64(value: i64) -> Wide
@@ -320,5 +408,54 @@ pub fn as_u128(x: Integer) -> AsWide
             }
             return AsWide::Refused(Refusal::ImpreciseCastWouldLoseData);
         }
+    }
+}
+
+// The value as an f32, or refusal 8 if it is not one of the whole numbers that an f32 counts without a gap.
+pub fn as_f32(x: Integer) -> AsF32
+    ensures { λ r. ⌜ r ≡ asF32 x ⌝ }
+{
+    match as_i32(x) {
+        AsI32::Value(int) => {
+            if int < -16777216 {
+                return AsF32::Refused(Refusal::ImpreciseCastWouldLoseData);
+            }
+            if int <= 16777215 {
+                return AsF32::Value(int as f32);
+            }
+            return AsF32::Refused(Refusal::ImpreciseCastWouldLoseData);
+        }
+        AsI32::Refused(refusal) => return AsF32::Refused(refusal),
+    }
+}
+
+// The value as an f64, or refusal 8 if it is not one of the whole numbers that an f64 counts without a gap.
+pub fn as_f64(x: Integer) -> AsF64
+    ensures { λ r. ⌜ r ≡ asF64 x ⌝ }
+{
+    match as_i64(x) {
+        AsI64::Value(int) => {
+            if int < -9007199254740992 {
+                return AsF64::Refused(Refusal::ImpreciseCastWouldLoseData);
+            }
+            if int <= 9007199254740991 {
+                return AsF64::Value(int as f64);
+            }
+            return AsF64::Refused(Refusal::ImpreciseCastWouldLoseData);
+        }
+        AsI64::Refused(refusal) => return AsF64::Refused(refusal),
+    }
+}
+
+// The value as an f32, or else as an f64.
+pub fn as_float(x: Integer) -> AsFloat
+    ensures { λ r. ⌜ r ≡ asFloat x ⌝ }
+{
+    match as_f32(x) {
+        AsF32::Value(float) => return AsFloat::Value(Float::F32(float)),
+        AsF32::Refused(_) => match as_f64(x) {
+            AsF64::Value(float) => return AsFloat::Value(Float::F64(float)),
+            AsF64::Refused(refusal) => return AsFloat::Refused(refusal),
+        },
     }
 }

@@ -7,8 +7,6 @@ use Rattle.types.specs.declared.AsWide.the-variants as A
 use Rattle.cast.proofs.Arms.{takenWide, through, signed-kept, signed-signed, unsigned-kept, words-i-i, words-u-i, words-u-i-lost}
 use Rattle.cast.proofs.as_i128.Statement.{statement}
 use Rattle.cast.proofs.as_i128.Tie as tie
-use Rattle.cast.proofs.as_i128.Reads as reads
-use Rattle.cast.proofs.as_i128.Lts as lts
 
 enum-known-x : tie.Need-enum-known-x
 enum-known-x c = search needs

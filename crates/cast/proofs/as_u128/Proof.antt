@@ -7,8 +7,6 @@ use Rattle.types.specs.declared.AsWide.the-variants as A
 use Rattle.cast.proofs.Arms.{takenWide, natural, unsigned-unsigned, signed-natural, signed-unsigned-lost, words-u-u, words-i-u, words-i-u-lost}
 use Rattle.cast.proofs.as_u128.Statement.{statement}
 use Rattle.cast.proofs.as_u128.Tie as tie
-use Rattle.cast.proofs.as_u128.Reads as reads
-use Rattle.cast.proofs.as_u128.Lts as lts
 
 enum-known-x : tie.Need-enum-known-x
 enum-known-x c = search needs
