@@ -55,8 +55,8 @@ same-self unsigned = refl
 
 pub equal-variants : (s : Sign) (w : Width) (x y : ℤ) → inRange s w x ≡ true → inRange s w y ≡ true → {a b : Integer} → a ≡ variant s w x → b ≡ variant s w y → sameValue x y ≡ equalIntegers a b
 unfolding equalIntegers
-equal-variants s w x y h k p q =
-    sym (ap (λ (a : Integer). equalIntegers a _) p ∙ ap (λ (b : Integer). equalIntegers (variant s w x) b) q
+equal-variants s w x y h k {a} {b} p q =
+    sym (ap (λ (n : Integer). equalIntegers n b) p ∙ ap (λ (n : Integer). equalIntegers (variant s w x) n) q
     ∙ simp (variant-sign s w x, variant-sign s w y, variant-width s w x, variant-width s w y, variant-value s w x h, variant-value s w y k, same-self s, is-true (eqb (bytes w) (bytes w)) (eqb-refl (bytes w))))
 
 pub signed-equal : (w : Width) (x y : ℤ) → SFits w x → SFits w y → {a b : Integer} → a ≡ variant signed w x → b ≡ variant signed w y → eqb (ofZ w x) (ofZ w y) ≡ equalIntegers a b

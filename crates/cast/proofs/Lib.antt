@@ -5,3 +5,4 @@ pub mod Zeros
 pub mod Equality
 pub mod Between
 pub mod Exact
+pub mod Halves

@@ -1,10 +1,13 @@
-// Checked casts, equality and zero of an integer, after `impl Integer` of format.rs. Document 01, "Casts": each cast goes
-// by variant, and refuses with 8 what its type does not hold.
+// Zero, equality, checked casts and `From` of an integer, after `impl Integer` and `impl From` of format.rs. Document 01,
+// "Casts": each cast goes by variant, and refuses with 8 what its type does not hold.
 ghost use mathlib.Core.Path.{_≡_};
 ghost use mathlib.Core.Bool.{_&&_};
 ghost use lib.Dec.{eqb};
 ghost use lib.IntN.{pos};
-ghost use Rattle.cast.specs.Variants.{isZero, equalIntegers, wideOf};
+ghost use mir.Syntax.{signed, unsigned, w8, w16, w32, w64, w128};
+ghost use mir.Val.{toZ};
+ghost use Rattle.cast.specs.Variants.{isZero, equalIntegers, joined, wideOf};
+ghost use Rattle.cast.specs.Froms.{from};
 ghost use Rattle.cast.specs.Casts.{asI8, asI16, asI32, asI64, asI128, asU8, asU16, asU32, asU64, asU128};
 ghost use Rattle.cast.specs.Casts.{asF32, asF64, asFloat};
 use types::AsF32;
@@ -458,4 +461,118 @@ pub fn as_float(x: Integer) -> AsFloat
             AsF64::Refused(refusal) => return AsFloat::Refused(refusal),
         },
     }
+}
+
+// `From`: the narrowest variant that holds the value. An unsigned value tries the unsigned type of half the width.
+pub fn from_u8(value: u8) -> Integer
+    ensures { λ r. ⌜ r ≡ from unsigned w8 (pos value) ⌝ }
+{
+    Integer::U8(value)
+}
+
+pub fn from_u16(value: u16) -> Integer
+    ensures { λ r. ⌜ r ≡ from unsigned w16 (pos value) ⌝ }
+{
+    if value <= 0xFF {
+        return from_u8(value as u8);
+    }
+    Integer::U16(value)
+}
+
+pub fn from_u32(value: u32) -> Integer
+    ensures { λ r. ⌜ r ≡ from unsigned w32 (pos value) ⌝ }
+{
+    if value <= 0xFFFF {
+        return from_u16(value as u16);
+    }
+    Integer::U32(value)
+}
+
+pub fn from_u64(value: u64) -> Integer
+    ensures { λ r. ⌜ r ≡ from unsigned w64 (pos value) ⌝ }
+{
+    if value <= 0xFFFF_FFFF {
+        return from_u32(value as u32);
+    }
+    Integer::U64(value)
+}
+
+pub fn from_u128(value: Wide) -> Integer
+    ensures { λ r. ⌜ r ≡ from unsigned w128 (pos (joined value)) ⌝ }
+{
+    if value.hi == 0 {
+        return from_u64(value.lo);
+    }
+    Integer::U128(value)
+}
+
+// A signed value tries the signed type of half the width, and then the unsigned one.
+pub fn from_i8(value: i8) -> Integer
+    ensures { λ r. ⌜ r ≡ from signed w8 value ⌝ }
+{
+    Integer::I8(value)
+}
+
+pub fn from_i16(value: i16) -> Integer
+    ensures { λ r. ⌜ r ≡ from signed w16 value ⌝ }
+{
+    if value < -128 {
+        return Integer::I16(value);
+    }
+    if value <= 127 {
+        return from_i8(value as i8);
+    }
+    if value <= 255 {
+        return from_u8(value as u8);
+    }
+    Integer::I16(value)
+}
+
+pub fn from_i32(value: i32) -> Integer
+    ensures { λ r. ⌜ r ≡ from signed w32 value ⌝ }
+{
+    if value < -32768 {
+        return Integer::I32(value);
+    }
+    if value <= 32767 {
+        return from_i16(value as i16);
+    }
+    if value <= 65535 {
+        return from_u16(value as u16);
+    }
+    Integer::I32(value)
+}
+
+pub fn from_i64(value: i64) -> Integer
+    ensures { λ r. ⌜ r ≡ from signed w64 value ⌝ }
+{
+    if value < -2147483648 {
+        return Integer::I64(value);
+    }
+    if value <= 2147483647 {
+        return from_i32(value as i32);
+    }
+    if value <= 4294967295 {
+        return from_u32(value as u32);
+    }
+    Integer::I64(value)
+}
+
+// The words of a value that fits an i64 are its own and its sign's.
+pub fn from_i128(value: Wide) -> Integer
+    ensures { λ r. ⌜ r ≡ from signed w128 (toZ w128 (joined value)) ⌝ }
+{
+    if value.hi == 0 {
+        if value.lo <= 0x7FFF_FFFF_FFFF_FFFF {
+            return from_i64(value.lo as i64);
+        }
+        return from_u64(value.lo);
+    }
+    if value.hi == 0xFFFF_FFFF_FFFF_FFFF {
+        if value.lo <= 0x7FFF_FFFF_FFFF_FFFF {
+            return Integer::I128(value);
+        }
+        return from_i64(!((0xFFFF_FFFF_FFFF_FFFF - value.lo) as i64));
+    }
+    Integer::I128(value)
 }
