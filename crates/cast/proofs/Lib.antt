@@ -6,3 +6,4 @@ pub mod Equality
 pub mod Between
 pub mod Exact
 pub mod Halves
+pub mod Made
