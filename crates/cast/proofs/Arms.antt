@@ -3,19 +3,19 @@
 use mathlib.Core.Path.{_≡_, refl, _∙_, sym, ap, subst}
 use mathlib.Core.Bool.{Bool, true, false, _&&_}
 use mathlib.Core.List.{List, [], _∷_}
-use Prim.Native.Nat.{ℕ, zero, suc, _+_, _-_, _^_, _≤_, _<_}
+use Prim.Native.Nat.{ℕ, suc, _-_, _^_, _≤_, _<_}
 use native.Mathlib.Nat.{le-of-lt, le-refl}
 use native.Mathlib.Omega.{arith}
 use lib.Dec.{T, leb, ltb, ltb→lt, le→leb}
 use lib.IntN.{ℤ, pos, negsuc, natAbs}
-use lib.Signed.{leZ, nonNeg, mag}
+use lib.Signed.{leZ, nonNeg}
 use mathlib.Core.Logic.{inl, inr}
 use lib.ListN.{getD}
 use lib.Ieee.Fits.{and-l, and-r}
 use mir.Syntax.{Sign, unsigned, signed, Width, w8, w16, w32, w64, w128}
 use mir.Val.{bits, hbits, bytes, Fits, SFits, toZ, ofZ}
 use mir.ValLaws.{toZ-ofZ, toZ-pos, toZ-fits, half-full}
-use borrow.Author.Tests.{leb-true, leb-false, le-leb, lt-leb, lt-ltb, le-ltb, ltb-true}
+use borrow.Author.Tests.{leb-false, lt-leb, lt-ltb, le-ltb, ltb-true, ltb-false}
 use denote.Enum.Declared
 use types.Run.{OneOf}
 use Rattle.types.specs.Choice.{pick}
@@ -27,8 +27,8 @@ use Rattle.types.specs.declared.Wide.{Wide}
 use Rattle.types.specs.declared.AsWide.{AsWide}
 use Rattle.types.specs.declared.AsWide.the-variants as A
 use Rattle.types.proofs.Integer as Made
-use Rattle.cast.specs.Variants.{width, value, variant, inRange, joined, wideOf}
-use Rattle.cast.specs.Casts.{castable, cast, asI128, asU128}
+use Rattle.cast.specs.Variants.{width, variant, inRange, joined, wideOf}
+use Rattle.cast.specs.Casts.{cast, keptWords, asI128, asU128}
 use Rattle.cast.proofs.Words.{Held, words-joined, joined-fits, wide-back, low-half, high-half, high-negative, small-words, negative-words}
 use Rattle.cast.proofs.Ranges.{no, wider, wider-signed, wider-unsigned, signed-fits, fits-signed, fits-unsigned, variant-width, variant-value}
 
@@ -204,24 +204,25 @@ module _ (p : Wide) (h : Held p) where
   pub words-u-u : {x : Integer} → x ≡ I.U128 p → A.Value p ≡ asU128 x
   words-u-u e = ap A.Value (sym (words-joined p h)) ∙ takes unsigned w128 takenWide A.Refused unsigned w128 (pos (joined p)) unsigned-in (unsigned-words e) tt unsigned-in refl
 
-  -- the high word is below its half
-  pub words-u-i : p .hi < 2 ^ 63 → {x : Integer} → x ≡ I.U128 p → A.Value p ≡ asI128 x
-  words-u-i l e = ap A.Value (sym (words-joined p h)) ∙ takes signed w128 takenWide A.Refused unsigned w128 (pos (joined p)) unsigned-in (unsigned-words e) tt (lt-ltb (joined p) (2 ^ 127) (low-half p h l)) refl
+  -- from one sign to the other, by the high word's top bit
+  pub words-u-i : {x : Integer} → x ≡ I.U128 p → keptWords p ≡ asI128 x
+  words-u-i {x} e = by (ltb (p .hi) (2 ^ 63)) refl
+    where
+      by : (b : Bool) → ltb (p .hi) (2 ^ 63) ≡ b → pick b (A.Value p) (A.Refused R.ImpreciseCastWouldLoseData) ≡ asI128 x
+      by true l =
+          ap A.Value (sym (words-joined p h))
+          ∙ takes signed w128 takenWide A.Refused unsigned w128 (pos (joined p)) unsigned-in (unsigned-words e) tt (lt-ltb (joined p) (2 ^ 127) (low-half p h (ltb-true (p .hi) (2 ^ 63) l))) refl
+      by false l = refuses signed w128 takenWide A.Refused unsigned w128 (pos (joined p)) unsigned-in (unsigned-words e) (le-ltb (joined p) (2 ^ 127) (high-half p (ltb-false (p .hi) (2 ^ 63) l)))
 
-  pub words-i-u : p .hi < 2 ^ 63 → {x : Integer} → x ≡ I.I128 p → A.Value p ≡ asU128 x
-  words-i-u l e =
-      ap A.Value (sym (wide-back p h))
-      ∙ takes unsigned w128 takenWide A.Refused signed w128 (toZ w128 (joined p)) signed-in (signed-words e) tt
-      (ap (inRange unsigned w128) (toZ-pos w128 (joined p) (low-half p h l)) ∙ unsigned-in) refl
-
-  -- or not
-  pub words-u-i-lost : 2 ^ 63 ≤ p .hi → {x : Integer} → x ≡ I.U128 p → A.Refused R.ImpreciseCastWouldLoseData ≡ asI128 x
-  words-u-i-lost l e = refuses signed w128 takenWide A.Refused unsigned w128 (pos (joined p)) unsigned-in (unsigned-words e) (le-ltb (joined p) (2 ^ 127) (high-half p l))
-
-  pub words-i-u-lost : 2 ^ 63 ≤ p .hi → {x : Integer} → x ≡ I.I128 p → A.Refused R.ImpreciseCastWouldLoseData ≡ asU128 x
-  words-i-u-lost l e =
-      refuses unsigned w128 takenWide A.Refused signed w128 (toZ w128 (joined p)) signed-in (signed-words e)
-      (ap (inRange unsigned w128) (high-negative p l))
+  pub words-i-u : {x : Integer} → x ≡ I.I128 p → keptWords p ≡ asU128 x
+  words-i-u {x} e = by (ltb (p .hi) (2 ^ 63)) refl
+    where
+      by : (b : Bool) → ltb (p .hi) (2 ^ 63) ≡ b → pick b (A.Value p) (A.Refused R.ImpreciseCastWouldLoseData) ≡ asU128 x
+      by true l =
+          ap A.Value (sym (wide-back p h))
+          ∙ takes unsigned w128 takenWide A.Refused signed w128 (toZ w128 (joined p)) signed-in (signed-words e) tt
+          (ap (inRange unsigned w128) (toZ-pos w128 (joined p) (low-half p h (ltb-true (p .hi) (2 ^ 63) l))) ∙ unsigned-in) refl
+      by false l = refuses unsigned w128 takenWide A.Refused signed w128 (toZ w128 (joined p)) signed-in (signed-words e) (ap (inRange unsigned w128) (high-negative p (ltb-false (p .hi) (2 ^ 63) l)))
 
 -- ---- the words of a signed number of 64 bits
 

@@ -3,7 +3,7 @@
 use mathlib.Core.Path.{_≡_, refl, _∙_, sym, ap}
 use mathlib.Core.Bool.{Bool, true, false}
 use Prim.Native.Nat.{ℕ, suc, _+_, _-_, _*_, _^_, _≤_, _<_}
-use native.Mathlib.Nat.{le-trans, le-add-right, mul-le-mul-right, suc-mul}
+use native.Mathlib.Nat.{le-trans, mul-le-mul-right, suc-mul}
 use native.Mathlib.Omega.{arith}
 use lib.Dec.{T, ltb, leb}
 use lib.IntN.{ℤ, pos, negsuc, natAbs}
@@ -12,15 +12,15 @@ use mir.Syntax.{Sign, unsigned, signed, Width, w8, w16, w32, w64, w128}
 use mir.Val.{bits, hbits, bytes, Fits, SFits, toZ, ofZ}
 use mir.ValLaws.{toZ-ofZ, toZ-pos, toZ-neg}
 use borrow.Author.Tests.{lt-ltb, le-ltb, ltb-true, leb-true, leb-false}
-use Rattle.types.specs.declared.Integer.{Integer}
 use Rattle.types.specs.declared.Integer.the-variants as I
 use Rattle.types.specs.declared.Wide.{Wide}
 use Rattle.cast.specs.Variants.{variant, inRange, joined}
 use Rattle.cast.specs.Froms.{from}
-use Rattle.cast.proofs.Words.{Held, joined-fits, words-joined, wide-back, low-half, high-negative}
-use Rattle.cast.proofs.Ranges.{no, narrower, signed-fits, fits-signed, fits-unsigned}
+use Rattle.cast.proofs.Words.{Held, words-joined, wide-back, low-half, high-negative}
+use Rattle.cast.proofs.Ranges.{no, narrower, signed-fits}
 use Rattle.cast.proofs.Between.{is-under, is-inside, is-over}
 
+-- half a width; the narrowest has none, and stands for itself
 abbrev pub half : Width → Width
 half w8 = w8
 half w16 = w8

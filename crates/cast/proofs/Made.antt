@@ -4,8 +4,7 @@
 use mathlib.Core.Path.{_≡_, refl, _∙_, sym, ap, subst}
 use mathlib.Core.Bool.{Bool, true, false, _&&_}
 use mathlib.Core.Logic.{_⊎_, inl, inr}
-use Prim.Native.Nat.{ℕ, _≤_}
-use native.Mathlib.Nat.{le-refl, le-trans, le-of-lt}
+use native.Mathlib.Nat.{le-refl, le-trans}
 use lib.Dec.{T, leb, ltb, leb→le, le→leb, lt→ltb}
 use lib.IntN.{ℤ, pos, negsuc}
 use mir.Syntax.{Sign, unsigned, signed, Width, w8, w16, w32, w64, w128}

@@ -1,17 +1,17 @@
 -- Ranges by width, and the variant that holds a value of its range: its sign, its width and its value are those it was made of.
 use mathlib.Core.Path.{_≡_, refl, _∙_, sym, ap}
 use mathlib.Core.Bool.{Bool, true, false}
-use Prim.Native.Nat.{ℕ, zero, suc, _+_, _-_, _*_, _/_, _%_, _^_, _≤_, _<_}
-use native.Mathlib.Nat.{le-trans, lt-of-lt-of-le, le-of-lt}
+use Prim.Native.Nat.{ℕ, _*_, _^_, _≤_}
+use native.Mathlib.Nat.{lt-of-lt-of-le}
 use native.Mathlib.Omega.{arith}
 use lib.Dec.{T, leb, ltb, leb→le, ltb→lt}
 use lib.Pow.{pow-mono}
-use lib.IntN.{ℤ, pos, negsuc, natAbs}
+use lib.IntN.{ℤ, pos, negsuc}
 use lib.Signed.{mag}
 use mir.Syntax.{Sign, unsigned, signed, Width, w8, w16, w32, w64, w128}
 use mir.Val.{bits, hbits, bytes, Fits, SFits, toZ, ofZ}
 use mir.ValLaws.{toZ-ofZ, bits-suc}
-use borrow.Author.Tests.{lt-ltb, le-ltb, ltb-true, ltb-false}
+use borrow.Author.Tests.{lt-ltb, ltb-true}
 use Rattle.cast.specs.Variants.{sign, width, value, variant, inRange}
 use Rattle.cast.proofs.Words.{joined-words}
 

@@ -1,14 +1,14 @@
 -- Two words and the number that they stand for are each other's inverse. Rests on the laws of digits, at the base 2 ^ 64.
 use mathlib.Core.Path.{_≡_, refl, _∙_, sym, ap}
-use Prim.Native.Nat.{ℕ, suc, _+_, _-_, _*_, _/_, _%_, _^_, _≤_, _<_}
+use Prim.Native.Nat.{ℕ, suc, _+_, _-_, _*_, _^_, _≤_, _<_}
 use native.Mathlib.Nat.{div-add-mod', mod-eq-of-lt, div-eq-of-lt, le-trans, mul-le-mul-right, le-add-right, suc-mul}
 use native.Mathlib.Omega.{arith}
 use lib.Arith.{digits-lt, digits-div, digits-mod}
 use borrow.Author.Tests.{le-ltb}
-use lib.IntN.{ℤ, pos, negsuc}
-use mir.Syntax.{w64, w128}
-use mir.Val.{Fits, SFits, toZ, ofZ}
-use mir.ValLaws.{ofZ-toZ, toZ-fits}
+use lib.IntN.{negsuc}
+use mir.Syntax.{w128}
+use mir.Val.{Fits, toZ}
+use mir.ValLaws.{ofZ-toZ}
 use Rattle.types.specs.declared.Wide.{Wide}
 use Rattle.cast.specs.Variants.{joined, words, wideOf}
 

@@ -1,11 +1,11 @@
 -- A number is 0 exactly if its bits are: signed, unsigned, and in two words.
 use mathlib.Core.Path.{_≡_, refl, _∙_, sym, ap}
 use mathlib.Core.Bool.{false}
-use Prim.Native.Nat.{ℕ, suc, _+_, _-_, _*_, _^_, _<_}
+use Prim.Native.Nat.{ℕ, suc, _-_, _*_, _^_, _<_}
 use native.Mathlib.Omega.{arith}
 use lib.Dec.{eqb}
 use lib.IntN.{ℤ, pos, negsuc, natAbs}
-use mir.Syntax.{Width, signed, unsigned, w128}
+use mir.Syntax.{Width, w128}
 use mir.Val.{bits, hbits, SFits, toZ, ofZ}
 use mir.ValLaws.{pow-bits, toZ-fits, ofZ-toZ}
 use borrow.Author.Tests.{ne-eqb}

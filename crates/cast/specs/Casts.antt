@@ -9,6 +9,7 @@ use mir.Syntax.{Sign, unsigned, signed, Width, w8, w16, w32, w64, w128}
 use mir.Val.{bytes}
 use Rattle.types.specs.Choice.{pick}
 use Rattle.types.specs.declared.Integer.{Integer}
+use Rattle.types.specs.declared.Wide.{Wide}
 use Rattle.types.specs.declared.Refusal.{Refusal}
 use Rattle.types.specs.declared.Refusal.the-variants as R
 use Rattle.types.specs.declared.Float.the-variants as F
@@ -45,6 +46,10 @@ castable s w x = leb (bytes (width x)) (bytes w) && inRange s w (value x)
 -- the answer of a cast to a sign and a width: the value, or the refusal
 unfoldable pub cast : {X : Type 0} → Sign → Width → (ℤ → X) → (Refusal → X) → Integer → X
 cast s w taken refused x = pick (castable s w x) (taken (value x)) (refused R.ImpreciseCastWouldLoseData)
+
+-- two words between the signed and the unsigned 128 bits: the same words, if they stand for a number below 2 ^ 127
+abbrev pub keptWords : Wide → AsWide
+keptWords p = pick (ltb (p .hi) (2 ^ 63)) (AsWide.Value p) (AsWide.Refused R.ImpreciseCastWouldLoseData)
 
 abbrev pub asI8 : Integer → AsI8
 asI8 = cast signed w8 AsI8.Value AsI8.Refused

@@ -9,7 +9,7 @@ ghost use mir.Val.{toZ};
 ghost use Rattle.cast.specs.Variants.{isZero, equalIntegers, joined, wideOf};
 ghost use Rattle.cast.specs.Froms.{from};
 ghost use Rattle.cast.specs.Casts.{asI8, asI16, asI32, asI64, asI128, asU8, asU16, asU32, asU64, asU128};
-ghost use Rattle.cast.specs.Casts.{asF32, asF64, asFloat};
+ghost use Rattle.cast.specs.Casts.{keptWords, asF32, asF64, asFloat};
 use types::AsF32;
 use types::AsF64;
 use types::AsFloat;
@@ -136,6 +136,16 @@ fn wide_of_u64(value: u64) -> Wide
     Wide { lo: value, hi: 0 }
 }
 
+// The words of a value that is the same signed and unsigned: the top bit is clear.
+fn kept_words(value: Wide) -> AsWide
+    ensures { λ r. ⌜ r ≡ keptWords value ⌝ }
+{
+    if value.hi < 0x8000_0000_0000_0000 {
+        return AsWide::Value(value);
+    }
+    AsWide::Refused(Refusal::ImpreciseCastWouldLoseData)
+}
+
 // The value as an i8, or refusal 8 if it does not fit.
 pub fn as_i8(x: Integer) -> AsI8
     ensures { λ r. ⌜ r ≡ asI8 x ⌝ }
@@ -159,7 +169,7 @@ pub fn as_i8(x: Integer) -> AsI8
     }
 }
 
-// The value as an u8, or refusal 8 if it does not fit.
+// The value as a u8, or refusal 8 if it does not fit.
 pub fn as_u8(x: Integer) -> AsU8
     ensures { λ r. ⌜ r ≡ asU8 x ⌝ }
 {
@@ -362,12 +372,7 @@ pub fn as_i128(x: Integer) -> AsWide
         Integer::I64(value) => return AsWide::Value(wide_of_i64(value)),
         Integer::U64(value) => return AsWide::Value(wide_of_u64(value)),
         Integer::I128(value) => return AsWide::Value(value),
-        Integer::U128(value) => {
-            if value.hi <= 0x7FFF_FFFF_FFFF_FFFF {
-                return AsWide::Value(value);
-            }
-            return AsWide::Refused(Refusal::ImpreciseCastWouldLoseData);
-        }
+        Integer::U128(value) => return kept_words(value),
     }
 }
 
@@ -405,12 +410,7 @@ pub fn as_u128(x: Integer) -> AsWide
         }
         Integer::U64(value) => return AsWide::Value(wide_of_u64(value)),
         Integer::U128(value) => return AsWide::Value(value),
-        Integer::I128(value) => {
-            if value.hi <= 0x7FFF_FFFF_FFFF_FFFF {
-                return AsWide::Value(value);
-            }
-            return AsWide::Refused(Refusal::ImpreciseCastWouldLoseData);
-        }
+        Integer::I128(value) => return kept_words(value),
     }
 }
 

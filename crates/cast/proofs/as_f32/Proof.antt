@@ -4,7 +4,6 @@ use mathlib.Core.Bool.{Bool}
 use lib.IntN.{ℤ}
 use lib.Ieee
 use mir.Syntax.{w32}
-use mir.Val.{toZ, ofZ}
 use mir.ValLaws.{toZ-ofZ}
 use borrow.Author.Needs.{needs}
 use Rattle.types.specs.Choice.{pick}

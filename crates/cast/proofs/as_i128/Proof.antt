@@ -1,10 +1,9 @@
 -- `cast::as_i128` meets its contract: each arm by the law of its kind of arm, at its widths.
 use mathlib.Core.Path.{_∙_, ap}
-use native.Mathlib.Omega.{arith}
 use mir.Syntax.{w8, w16, w32, w64, w128}
 use borrow.Author.Needs.{needs}
 use Rattle.types.specs.declared.AsWide.the-variants as A
-use Rattle.cast.proofs.Arms.{takenWide, through, signed-kept, signed-signed, unsigned-kept, words-i-i, words-u-i, words-u-i-lost}
+use Rattle.cast.proofs.Arms.{takenWide, through, signed-kept, signed-signed, unsigned-kept, words-i-i, words-u-i}
 use Rattle.cast.proofs.as_i128.Statement.{statement}
 use Rattle.cast.proofs.as_i128.Tie as tie
 
@@ -107,11 +106,11 @@ returns-9 c = let h = c .before .x9 .given in words-i-i (h .0 .0) (search needs,
 enum-known-x-10 : tie.Need-enum-known-x-10
 enum-known-x-10 c = search needs
 
-returns-10 : tie.Need-returns-10
-returns-10 c = let h = c .before .before .before .x10 .given in words-u-i (h .0 .0) (search needs, search needs) (omega arith) (h .1)
+kept-words-requires : tie.Need-kept-words-requires
+kept-words-requires c κs = search needs
 
-returns-11 : tie.Need-returns-11
-returns-11 c = let h = c .before .before .before .x10 .given in words-u-i-lost (h .0 .0) (search needs, search needs) (omega arith) (h .1)
+returns-10 : tie.Need-returns-10
+returns-10 c = let h = c .before .before .x10 .given in c .kept-words .ensures ∙ words-u-i (h .0 .0) (search needs, search needs) (h .1)
 
 pub as-i128-spec : {M : Type 1} → statement M
-as-i128-spec = tie.close (tie.spec enum-known-x cast-wide-of-i64 wide-of-i64-requires returns enum-known-x-2 cast-wide-of-u64 wide-of-u64-requires returns-2 enum-known-x-3 cast-wide-of-i64-2 wide-of-i64-requires-2 returns-3 enum-known-x-4 cast-wide-of-u64-2 wide-of-u64-requires-2 returns-4 enum-known-x-5 cast-wide-of-i64-3 wide-of-i64-requires-3 returns-5 enum-known-x-6 cast-wide-of-u64-3 wide-of-u64-requires-3 returns-6 enum-known-x-7 wide-of-i64-requires-4 returns-7 enum-known-x-8 wide-of-u64-requires-4 returns-8 enum-known-x-9 returns-9 enum-known-x-10 returns-10 returns-11)
+as-i128-spec = tie.close (tie.spec enum-known-x cast-wide-of-i64 wide-of-i64-requires returns enum-known-x-2 cast-wide-of-u64 wide-of-u64-requires returns-2 enum-known-x-3 cast-wide-of-i64-2 wide-of-i64-requires-2 returns-3 enum-known-x-4 cast-wide-of-u64-2 wide-of-u64-requires-2 returns-4 enum-known-x-5 cast-wide-of-i64-3 wide-of-i64-requires-3 returns-5 enum-known-x-6 cast-wide-of-u64-3 wide-of-u64-requires-3 returns-6 enum-known-x-7 wide-of-i64-requires-4 returns-7 enum-known-x-8 wide-of-u64-requires-4 returns-8 enum-known-x-9 returns-9 enum-known-x-10 kept-words-requires returns-10)

@@ -1,10 +1,9 @@
 -- `cast::as_u128` meets its contract: each arm by the law of its kind of arm, at its widths.
 use mathlib.Core.Path.{_∙_, ap}
-use native.Mathlib.Omega.{arith}
 use mir.Syntax.{w8, w16, w32, w64, w128}
 use borrow.Author.Needs.{needs}
 use Rattle.types.specs.declared.AsWide.the-variants as A
-use Rattle.cast.proofs.Arms.{takenWide, natural, unsigned-unsigned, signed-natural, signed-unsigned-lost, words-u-u, words-i-u, words-i-u-lost}
+use Rattle.cast.proofs.Arms.{takenWide, natural, unsigned-unsigned, signed-natural, signed-unsigned-lost, words-u-u, words-i-u}
 use Rattle.cast.proofs.as_u128.Statement.{statement}
 use Rattle.cast.proofs.as_u128.Tie as tie
 
@@ -122,11 +121,11 @@ returns-13 c = let h = c .before .x9 .given in words-u-u (h .0 .0) (search needs
 enum-known-x-10 : tie.Need-enum-known-x-10
 enum-known-x-10 c = search needs
 
-returns-14 : tie.Need-returns-14
-returns-14 c = let h = c .before .before .before .x10 .given in words-i-u (h .0 .0) (search needs, search needs) (omega arith) (h .1)
+kept-words-requires : tie.Need-kept-words-requires
+kept-words-requires c κs = search needs
 
-returns-15 : tie.Need-returns-15
-returns-15 c = let h = c .before .before .before .x10 .given in words-i-u-lost (h .0 .0) (search needs, search needs) (omega arith) (h .1)
+returns-14 : tie.Need-returns-14
+returns-14 c = let h = c .before .before .x10 .given in c .kept-words .ensures ∙ words-i-u (h .0 .0) (search needs, search needs) (h .1)
 
 pub as-u128-spec : {M : Type 1} → statement M
-as-u128-spec = tie.close (tie.spec enum-known-x cast-wide-of-u64 wide-of-u64-requires returns returns-2 enum-known-x-2 cast-wide-of-u64-2 wide-of-u64-requires-2 returns-3 enum-known-x-3 cast-wide-of-u64-3 wide-of-u64-requires-3 returns-4 returns-5 enum-known-x-4 cast-wide-of-u64-4 wide-of-u64-requires-4 returns-6 enum-known-x-5 cast-wide-of-u64-5 wide-of-u64-requires-5 returns-7 returns-8 enum-known-x-6 cast-wide-of-u64-6 wide-of-u64-requires-6 returns-9 enum-known-x-7 cast-wide-of-u64-7 wide-of-u64-requires-7 returns-10 returns-11 enum-known-x-8 wide-of-u64-requires-8 returns-12 enum-known-x-9 returns-13 enum-known-x-10 returns-14 returns-15)
+as-u128-spec = tie.close (tie.spec enum-known-x cast-wide-of-u64 wide-of-u64-requires returns returns-2 enum-known-x-2 cast-wide-of-u64-2 wide-of-u64-requires-2 returns-3 enum-known-x-3 cast-wide-of-u64-3 wide-of-u64-requires-3 returns-4 returns-5 enum-known-x-4 cast-wide-of-u64-4 wide-of-u64-requires-4 returns-6 enum-known-x-5 cast-wide-of-u64-5 wide-of-u64-requires-5 returns-7 returns-8 enum-known-x-6 cast-wide-of-u64-6 wide-of-u64-requires-6 returns-9 enum-known-x-7 cast-wide-of-u64-7 wide-of-u64-requires-7 returns-10 returns-11 enum-known-x-8 wide-of-u64-requires-8 returns-12 enum-known-x-9 returns-13 enum-known-x-10 kept-words-requires returns-14)
