@@ -1,12 +1,12 @@
 -- The laws of widening and narrowing that other crates cite. W is one of `half-single`, `single-double` and `half-double` of `Widths`.
 use mathlib.Core.Path.{_≡_, refl, sym, ap, _∙_, subst}
 use mathlib.Core.Bool.{Bool}
-use Prim.Native.Nat.{ℕ, zero, suc, _+_, _-_, _*_, _/_, _%_, _^_, _≤_, _<_}
+use Prim.Native.Nat.{ℕ, suc, _+_, _-_, _*_, _%_, _^_, _≤_, _<_}
 use native.Mathlib.Nat.{add-zero, zero-mul, le-of-lt, le-of-eq, mod-lt, pow-suc}
 use native.Mathlib.Omega.{arith}
 use lib.Pow.{pow-pos}
-use Rattle.binary.specs.Formats.{Layout, leading, signWeight, allOnes, negative, exponent, fraction, unit, smallests, magnitude, Meaning, finite, infinite, nan, meaning, Number, SameValue}
-use Rattle.binary.specs.Conversions.{signed, infinity, quieted, widenedMeaning, widened, Narrowed, exact, lost, narrowedMeaning, narrowed, Narrows, through}
+use Rattle.binary.specs.Formats.{Layout, leading, signWeight, allOnes, negative, exponent, fraction, unit, smallests, magnitude, finite, infinite, nan, meaning, Number, SameValue}
+use Rattle.binary.specs.Conversions.{signed, infinity, quieted, widened, Narrowed, exact, lost, narrowedMeaning, narrowed, Narrows, through}
 use Rattle.binary.proofs.Patterns.{rest-lt, signed-lt, fraction-lt, meaning-signed, meant-finite, meant-nan, Reading, is-finite, is-infinite, is-nan, reading, one-pattern}
 use Rattle.binary.proofs.Narrowing.{narrows, one-answer, infinite-here, infinity-lt}
 use Rattle.binary.proofs.Widths.{Widens, lifted}

@@ -14,7 +14,7 @@ use lib.Ieee.Bits.{ofBits-fits, ofBits-toBits, toBits-lt}
 use lib.Ieee.Exact.{HasValue, odd-sign}
 use lib.Ieee.Fits.{and-l, and-r, down-pos, fits-widens}
 use borrow.Author.Tests.{leb-true, leb-false}
-use Rattle.binary.specs.Formats.{Layout, single, double, leading, signWeight, allOnes, unit, negative, exponent, fraction, smallests, magnitude, Meaning, finite, infinite, nan, meaning, Number}
+use Rattle.binary.specs.Formats.{single, double, leading, signWeight, allOnes, unit, negative, exponent, fraction, smallests, magnitude, Meaning, finite, infinite, nan, meaning, Number}
 use Rattle.binary.specs.Conversions.{quieted, widened, exact, narrowed}
 use Rattle.binary.specs.Floats.{layoutOf, unitsOf, floatMeaning, plain}
 use Rattle.binary.proofs.Patterns.{meant, meaning-is, meant-finite, Reading, is-finite, is-infinite, is-nan, reading, one-pattern}
