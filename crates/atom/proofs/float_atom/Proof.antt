@@ -7,15 +7,10 @@ use Rattle.atom.specs.Atoms.{atomOf}
 use borrow.Author.Needs.{needs}
 use Rattle.atom.proofs.float_atom.Statement.{statement}
 use Rattle.atom.proofs.float_atom.Tie as tie
-use Rattle.atom.proofs.float_atom.Reads as reads
-use Rattle.atom.proofs.float_atom.Lts as lts
-use Rattle.float.proofs.float_of.Reads as float-of-reads
 
--- src/lib.rt:97:34
 float-of-requires : tie.Need-float-of-requires
 float-of-requires c κs = search needs
 
--- src/lib.rt:93:1
 returns : tie.Need-returns
 returns c = ap (λ (x : Float). atomOf K.Float (c .before .args .arg) (N.Float x (c .before .args .bits))) (c .float-of .ensures)
 

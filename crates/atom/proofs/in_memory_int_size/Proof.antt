@@ -2,18 +2,13 @@
 use borrow.Author.Tests.{ne-eqb}
 use Rattle.atom.proofs.in_memory_int_size.Statement.{statement}
 use Rattle.atom.proofs.in_memory_int_size.Tie as tie
-use Rattle.atom.proofs.in_memory_int_size.Reads as reads
-use Rattle.atom.proofs.in_memory_int_size.Lts as lts
 
--- src/lib.rt:43:1
 returns : tie.Need-returns
 returns c = simp (c .match .keys1)
 
--- src/lib.rt:43:1
 returns-2 : tie.Need-returns-2
 returns-2 c = simp (c .match .keys2)
 
--- src/lib.rt:43:1
 returns-3 : tie.Need-returns-3
 returns-3 c = let r = c .match .rest in simp (ne-eqb _ _ (r .0 .1), ne-eqb _ _ (r .1))
 

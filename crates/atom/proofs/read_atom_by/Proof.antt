@@ -1,38 +1,48 @@
+-- `atom::read_atom_by` meets its contract: the header's answer decides, and its place is within the source.
+use mathlib.Core.Path.{_∙_, sym, ap, subst}
+use Prim.Native.Nat.{ℕ, _≤_}
+use denote.Ref.{now}
+use lib.ListN.{length}
+use Rattle.header.proofs.Places.{headerPlace, header-place}
+use Rattle.reader.specs.Strings.{startOf}
+use Rattle.reader.proofs.Strings.{start-within}
+use Rattle.atom.specs.Atoms.{atomRead, atomScratch, atomFrom, scratchFrom}
 use borrow.Author.Needs.{needs}
 use Rattle.atom.proofs.read_atom_by.Statement.{statement}
 use Rattle.atom.proofs.read_atom_by.Tie as tie
-use Rattle.atom.proofs.read_atom_by.Reads as reads
-use Rattle.atom.proofs.read_atom_by.Lts as lts
-use Rattle.atom.proofs.read_body.Reads as read-body-reads
-use Rattle.header.proofs.read_atom_header.Reads as read-atom-header-reads
 
--- src/lib.rt:248:11
 read-atom-header-requires : tie.Need-read-atom-header-requires
 read-atom-header-requires c κs = search needs
 
--- src/lib.rt:249:28
 enum-known-next : tie.Need-enum-known-next
 enum-known-next c = search needs
 
--- src/lib.rt:250:13
 read-body-requires : tie.Need-read-body-requires
-read-body-requires c κs = ?
+read-body-requires c κs =
+    let a = c .before .before .before .before .before .before .before .args in
+    let s = now (a .source) in
+    let e = (sym (c .before .before .before .before .read-atom-header .ensures) ∙ c .before .before .next .given .1) in
+    subst (λ (n : ℕ). n ≤ length s) (ap headerPlace e) (header-place (a .way) s (startOf s (a .place .0)) (start-within s (a .place .0)) .1)
 
--- src/lib.rt:250:13
 same-length : tie.Need-same-length
 same-length c = search needs
 
--- src/lib.rt:250:13
 returns : tie.Need-returns
-returns c = ?
+unfolding atomRead atomScratch
+returns c =
+    let a = c .before .before .before .before .before .before .before .before .before .before .args in
+    let e = (sym (c .before .before .before .before .before .before .before .read-atom-header .ensures) ∙ c .before .before .before .before .before .next .given .1) in
+    (c .before .before .read-body .ensures .0 ∙ ap (atomFrom (a .way) (now (a .source)) (a .budget) (now (a .scratch))) (sym e), c .before .before .read-body .ensures .1 ∙ ap (scratchFrom (a .way) (now (a .source)) (a .budget) (now (a .scratch))) (sym e))
 
--- src/lib.rt:252:31
 enum-known-end : tie.Need-enum-known-end
 enum-known-end c = search needs
 
--- src/lib.rt:253:13
 returns-2 : tie.Need-returns-2
-returns-2 c = ?
+unfolding atomRead atomScratch
+returns-2 c =
+    let a = c .before .before .before .before .before .before .args in
+    let e = (sym (c .before .before .before .read-atom-header .ensures) ∙ c .before .end .given .1) in
+    (ap (atomFrom (a .way) (now (a .source)) (a .budget) (now (a .scratch))) (sym e), ap (scratchFrom (a .way) (now (a .source)) (a .budget) (now (a .scratch))) (sym e))
 
 pub read-atom-by-spec : {M : Type 1} → statement M
 read-atom-by-spec =

@@ -4,7 +4,6 @@ use Prim.Native.Nat.{_+_, _≤_, _<_}
 use native.Mathlib.Omega.{arith}
 use denote.Ref.{now}
 use lib.ListN.{length}
-use Rattle.types.specs.declared.Nucleus.the-variants as N
 use Rattle.types.specs.declared.AtomAnswer.the-variants as A
 use Rattle.atom.specs.Charges.{budgetAfter}
 use Rattle.types.specs.declared.Kind.the-variants as K
@@ -15,71 +14,49 @@ use Rattle.float.proofs.Answers.{from-body, from-count, body-whole, body-filled
 use borrow.Author.Needs.{needs}
 use Rattle.atom.proofs.read_float.Statement.{statement}
 use Rattle.atom.proofs.read_float.Tie as tie
-use Rattle.atom.proofs.read_float.Reads as reads
-use Rattle.atom.proofs.read_float.Lts as lts
-use Rattle.atom.proofs.count_of.Reads as count-of-reads
-use Rattle.atom.proofs.float_atom.Reads as float-atom-reads
-use Rattle.atom.proofs.in_memory_int_size.Reads as in-memory-int-size-reads
-use Rattle.atom.proofs.update_budget.Reads as update-budget-reads
-use Rattle.float.proofs.allowed.Reads as allowed-reads
-use Rattle.float.proofs.filled_bits.Reads as filled-bits-reads
-use Rattle.float.proofs.stored_bits.Reads as stored-bits-reads
-use Rattle.types.proofs.Way.is_exact.Reads as is-exact-reads
 
--- src/lib.rt:163:9
 count-of-requires : tie.Need-count-of-requires
 count-of-requires c κs = search needs
 
--- src/lib.rt:164:58
 in-memory-int-size-requires : tie.Need-in-memory-int-size-requires
 in-memory-int-size-requires c κs = search needs
 
--- src/lib.rt:164:36
 update-budget-requires : tie.Need-update-budget-requires
 update-budget-requires c κs = search needs
 
--- src/lib.rt:164:28
 enum-known-rest : tie.Need-enum-known-rest
 enum-known-rest c = search needs
 
--- src/lib.rt:165:50
 enum-told : tie.Need-enum-told
 enum-told c = search needs
 
--- src/lib.rt:165:9
 returns : tie.Need-returns
-returns c = 
+returns c =
     let a = c .before .before .before .before .before .before .args in
     let s = now (a .source) in
     float-over (a .way) s (a .arg) (a .next) (a .budget) (c .enum-told .given .0 .0) (c .before .before .before .before .count-of .result) (c .before .before .before .before .count-of .ensures .0) (sym (c .before .before .update-budget .ensures ∙ ap (budgetAfter (a .budget)) (c .before .before .before .in-memory-int-size .ensures)) ∙ c .enum-told .given .1)
 
--- src/lib.rt:167:8
 allowed-requires : tie.Need-allowed-requires
 allowed-requires c κs = search needs
 
--- src/lib.rt:170:21
 sub-if2 : tie.Need-sub-if2
 sub-if2 c = search needs
 
--- src/lib.rt:171:17
 stored-bits-requires : tie.Need-stored-bits-requires
-stored-bits-requires c κs = 
+stored-bits-requires c κs =
     let a = c .before .before .before .before .before .before .before .before .before .before .args in
     let s = now (a .source) in
     let room : a .next .0 + c .before .before .before .before .before .before .before .before .count-of .result ≤ length s = omega arith in
     (sym (c .before .before .allowed .ensures) ∙ c .before .if1 .taken, room)
 
--- src/lib.rt:172:43
 add-t19 : tie.Need-add-t19
 add-t19 c = search needs
 
--- src/lib.rt:172:62
 float-atom-requires : tie.Need-float-atom-requires
 float-atom-requires c κs = search needs
 
--- src/lib.rt:172:13
 returns-2 : tie.Need-returns-2
-returns-2 c = 
+returns-2 c =
     let a = c .before .before .before .before .before .before .before .before .before .before .before .before .args in
     let s = now (a .source) in
     let n = c .before .before .before .before .before .before .before .before .before .before .count-of .result in
@@ -90,13 +67,11 @@ returns-2 c =
     ∙ ap (floatAtom (a .arg) (c .before .before .before .before .before .before .rest .given .0 .0)) (body-whole (a .way) s (a .next .0) n bits (floatOf n bits) (c .before .stored-bits .ensures .0) refl whole ∙ from-body (a .way) s (a .next .0) n K.Float refl ok)
     ∙ float-left (a .way) s (a .arg) (a .next) (a .budget) (c .before .before .before .before .before .before .rest .given .0 .0) n (c .before .before .before .before .before .before .before .before .before .before .count-of .ensures .0) (sym (c .before .before .before .before .before .before .before .before .update-budget .ensures ∙ ap (budgetAfter (a .budget)) (c .before .before .before .before .before .before .before .before .before .in-memory-int-size .ensures)) ∙ c .before .before .before .before .before .before .rest .given .1)
 
--- src/lib.rt:174:12
 is-exact-requires : tie.Need-is-exact-requires
 is-exact-requires c κs = search needs
 
--- src/lib.rt:175:13
 returns-3 : tie.Need-returns-3
-returns-3 c = 
+returns-3 c =
     let a = c .before .before .before .before .before .before .before .before .before .before .before .before .args in
     let s = now (a .source) in
     let n = c .before .before .before .before .before .before .before .before .before .before .count-of .result in
@@ -105,17 +80,14 @@ returns-3 c =
     ap (floatAtom (a .arg) (c .before .before .before .before .before .before .rest .given .0 .0)) (body-eof (a .way) s (a .next .0) n past (sym (c .before .is-exact .ensures) ∙ c .if3 .taken) ∙ from-body (a .way) s (a .next .0) n K.Float refl ok)
     ∙ float-left (a .way) s (a .arg) (a .next) (a .budget) (c .before .before .before .before .before .before .rest .given .0 .0) n (c .before .before .before .before .before .before .before .before .before .before .count-of .ensures .0) (sym (c .before .before .before .before .before .before .before .before .update-budget .ensures ∙ ap (budgetAfter (a .budget)) (c .before .before .before .before .before .before .before .before .before .in-memory-int-size .ensures)) ∙ c .before .before .before .before .before .before .rest .given .1)
 
--- src/lib.rt:177:13
 filled-bits-requires : tie.Need-filled-bits-requires
 filled-bits-requires c κs = sym (c .before .before .before .before .allowed .ensures) ∙ c .before .before .before .if1 .taken
 
--- src/lib.rt:178:60
 float-atom-requires-2 : tie.Need-float-atom-requires-2
 float-atom-requires-2 c κs = search needs
 
--- src/lib.rt:178:9
 returns-4 : tie.Need-returns-4
-returns-4 c = 
+returns-4 c =
     let a = c .before .before .before .before .before .before .before .before .before .before .before .before .before .before .args in
     let s = now (a .source) in
     let n = c .before .before .before .before .before .before .before .before .before .before .before .before .count-of .result in
@@ -126,9 +98,8 @@ returns-4 c =
     ∙ ap (floatAtom (a .arg) (c .before .before .before .before .before .before .before .before .rest .given .0 .0)) (body-filled (a .way) s (a .next .0) n bits (floatOf n bits) (c .before .filled-bits .ensures .0) refl past (sym (c .before .before .before .is-exact .ensures) ∙ c .before .before .if3 .left) ∙ from-body (a .way) s (a .next .0) n K.Float refl ok)
     ∙ float-left (a .way) s (a .arg) (a .next) (a .budget) (c .before .before .before .before .before .before .before .before .rest .given .0 .0) n (c .before .before .before .before .before .before .before .before .before .before .before .before .count-of .ensures .0) (sym (c .before .before .before .before .before .before .before .before .before .before .update-budget .ensures ∙ ap (budgetAfter (a .budget)) (c .before .before .before .before .before .before .before .before .before .before .before .in-memory-int-size .ensures)) ∙ c .before .before .before .before .before .before .before .before .rest .given .1)
 
--- src/lib.rt:159:1
 returns-5 : tie.Need-returns-5
-returns-5 c = 
+returns-5 c =
     let a = c .before .before .before .before .before .before .before .before .before .args in
     let s = now (a .source) in
     let n = c .before .before .before .before .before .before .before .count-of .result in

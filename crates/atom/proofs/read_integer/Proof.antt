@@ -14,71 +14,49 @@ use Rattle.integer.proofs.Answers.{from-body, from-other-count, body-whole, bod
 use borrow.Author.Needs.{needs}
 use Rattle.atom.proofs.read_integer.Statement.{statement}
 use Rattle.atom.proofs.read_integer.Tie as tie
-use Rattle.atom.proofs.read_integer.Reads as reads
-use Rattle.atom.proofs.read_integer.Lts as lts
-use Rattle.atom.proofs.count_of.Reads as count-of-reads
-use Rattle.atom.proofs.in_memory_int_size.Reads as in-memory-int-size-reads
-use Rattle.atom.proofs.integer_atom.Reads as integer-atom-reads
-use Rattle.atom.proofs.update_budget.Reads as update-budget-reads
-use Rattle.integer.proofs.allowed.Reads as allowed-reads
-use Rattle.integer.proofs.filled_integer.Reads as filled-integer-reads
-use Rattle.integer.proofs.integer_at.Reads as integer-at-reads
-use Rattle.types.proofs.Way.is_exact.Reads as is-exact-reads
 
--- src/lib.rt:138:9
 count-of-requires : tie.Need-count-of-requires
 count-of-requires c κs = search needs
 
--- src/lib.rt:139:58
 in-memory-int-size-requires : tie.Need-in-memory-int-size-requires
 in-memory-int-size-requires c κs = search needs
 
--- src/lib.rt:139:36
 update-budget-requires : tie.Need-update-budget-requires
 update-budget-requires c κs = search needs
 
--- src/lib.rt:139:28
 enum-known-rest : tie.Need-enum-known-rest
 enum-known-rest c = search needs
 
--- src/lib.rt:140:50
 enum-told : tie.Need-enum-told
 enum-told c = search needs
 
--- src/lib.rt:140:9
 returns : tie.Need-returns
-returns c = 
+returns c =
     let a = c .before .before .before .before .before .before .args in
     let s = now (a .source) in
     integer-over (a .way) s (a .arg) (a .next) (a .budget) (c .enum-told .given .0 .0) (a .kind) (c .before .before .before .before .count-of .result) (c .before .before .before .before .count-of .ensures .0) (sym (c .before .before .update-budget .ensures ∙ ap (budgetAfter (a .budget)) (c .before .before .before .in-memory-int-size .ensures)) ∙ c .enum-told .given .1)
 
--- src/lib.rt:142:8
 allowed-requires : tie.Need-allowed-requires
 allowed-requires c κs = search needs
 
--- src/lib.rt:145:21
 sub-if2 : tie.Need-sub-if2
 sub-if2 c = search needs
 
--- src/lib.rt:146:17
 integer-at-requires : tie.Need-integer-at-requires
-integer-at-requires c κs = 
+integer-at-requires c κs =
     let a = c .before .before .before .before .before .before .before .before .before .before .args in
     let s = now (a .source) in
     let room : a .next .0 + c .before .before .before .before .before .before .before .before .count-of .result ≤ length s = omega arith in
     (sym (c .before .before .allowed .ensures) ∙ c .before .if1 .taken, room)
 
--- src/lib.rt:147:43
 add-t20 : tie.Need-add-t20
 add-t20 c = search needs
 
--- src/lib.rt:147:62
 integer-atom-requires : tie.Need-integer-atom-requires
 integer-atom-requires c κs = search needs
 
--- src/lib.rt:147:13
 returns-2 : tie.Need-returns-2
-returns-2 c = 
+returns-2 c =
     let a = c .before .before .before .before .before .before .before .before .before .before .before .before .args in
     let s = now (a .source) in
     let n = c .before .before .before .before .before .before .before .before .before .before .count-of .result in
@@ -88,13 +66,11 @@ returns-2 c =
     ∙ ap (integerAtom (a .kind) (a .arg) (c .before .before .before .before .before .before .rest .given .0 .0)) (sym (from-body (a .way) s (a .next .0) (a .kind) n (c .before .before .before .before .before .before .before .before .before .before .before .before .pre .1) ok ∙ body-whole (a .way) s (a .next .0) (a .kind) n whole))
     ∙ integer-left (a .way) s (a .arg) (a .next) (a .budget) (c .before .before .before .before .before .before .rest .given .0 .0) (a .kind) n (c .before .before .before .before .before .before .before .before .before .before .count-of .ensures .0) (sym (c .before .before .before .before .before .before .before .before .update-budget .ensures ∙ ap (budgetAfter (a .budget)) (c .before .before .before .before .before .before .before .before .before .in-memory-int-size .ensures)) ∙ c .before .before .before .before .before .before .rest .given .1)
 
--- src/lib.rt:149:12
 is-exact-requires : tie.Need-is-exact-requires
 is-exact-requires c κs = search needs
 
--- src/lib.rt:150:13
 returns-3 : tie.Need-returns-3
-returns-3 c = 
+returns-3 c =
     let a = c .before .before .before .before .before .before .before .before .before .before .before .before .args in
     let s = now (a .source) in
     let n = c .before .before .before .before .before .before .before .before .before .before .count-of .result in
@@ -103,21 +79,18 @@ returns-3 c =
     ap (integerAtom (a .kind) (a .arg) (c .before .before .before .before .before .before .rest .given .0 .0)) (sym (from-body (a .way) s (a .next .0) (a .kind) n (c .before .before .before .before .before .before .before .before .before .before .before .before .pre .1) ok ∙ body-eof (a .way) s (a .next .0) (a .kind) n past (sym (c .before .is-exact .ensures) ∙ c .if3 .taken)))
     ∙ integer-left (a .way) s (a .arg) (a .next) (a .budget) (c .before .before .before .before .before .before .rest .given .0 .0) (a .kind) n (c .before .before .before .before .before .before .before .before .before .before .count-of .ensures .0) (sym (c .before .before .before .before .before .before .before .before .update-budget .ensures ∙ ap (budgetAfter (a .budget)) (c .before .before .before .before .before .before .before .before .before .in-memory-int-size .ensures)) ∙ c .before .before .before .before .before .before .rest .given .1)
 
--- src/lib.rt:152:13
 filled-integer-requires : tie.Need-filled-integer-requires
-filled-integer-requires c κs = 
+filled-integer-requires c κs =
     let a = c .before .before .before .before .before .before .before .before .before .before .before .before .args in
     let s = now (a .source) in
     let room : a .next .0 ≤ length s = c .before .before .before .before .before .before .before .before .before .before .before .before .pre .0 in
     (sym (c .before .before .before .before .allowed .ensures) ∙ c .before .before .before .if1 .taken, room)
 
--- src/lib.rt:153:60
 integer-atom-requires-2 : tie.Need-integer-atom-requires-2
 integer-atom-requires-2 c κs = search needs
 
--- src/lib.rt:153:9
 returns-4 : tie.Need-returns-4
-returns-4 c = 
+returns-4 c =
     let a = c .before .before .before .before .before .before .before .before .before .before .before .before .before .before .args in
     let s = now (a .source) in
     let n = c .before .before .before .before .before .before .before .before .before .before .before .before .count-of .result in
@@ -127,9 +100,8 @@ returns-4 c =
     ∙ ap (integerAtom (a .kind) (a .arg) (c .before .before .before .before .before .before .before .before .rest .given .0 .0)) (sym (from-body (a .way) s (a .next .0) (a .kind) n (c .before .before .before .before .before .before .before .before .before .before .before .before .before .before .pre .1) ok ∙ body-filled (a .way) s (a .next .0) (a .kind) n past (sym (c .before .before .before .is-exact .ensures) ∙ c .before .before .if3 .left)))
     ∙ integer-left (a .way) s (a .arg) (a .next) (a .budget) (c .before .before .before .before .before .before .before .before .rest .given .0 .0) (a .kind) n (c .before .before .before .before .before .before .before .before .before .before .before .before .count-of .ensures .0) (sym (c .before .before .before .before .before .before .before .before .before .before .update-budget .ensures ∙ ap (budgetAfter (a .budget)) (c .before .before .before .before .before .before .before .before .before .before .before .in-memory-int-size .ensures)) ∙ c .before .before .before .before .before .before .before .before .rest .given .1)
 
--- src/lib.rt:127:1
 returns-5 : tie.Need-returns-5
-returns-5 c = 
+returns-5 c =
     let a = c .before .before .before .before .before .before .before .before .before .args in
     let s = now (a .source) in
     let n = c .before .before .before .before .before .before .before .count-of .result in

@@ -7,37 +7,27 @@ use Rattle.atom.specs.Atoms.{atomOf, specialAtom}
 use borrow.Author.Needs.{needs}
 use Rattle.atom.proofs.read_special.Statement.{statement}
 use Rattle.atom.proofs.read_special.Tie as tie
-use Rattle.atom.proofs.read_special.Reads as reads
-use Rattle.atom.proofs.read_special.Lts as lts
-use Rattle.atom.proofs.nucleus_of.Reads as nucleus-of-reads
-use Rattle.types.proofs.Special.try_from.Reads as try-from-reads
 
--- src/lib.rt:114:11
 try-from-requires : tie.Need-try-from-requires
 try-from-requires c κs = search needs
 
--- src/lib.rt:115:30
 enum-known-special : tie.Need-enum-known-special
 enum-known-special c = search needs
 
--- src/lib.rt:116:17
 nucleus-of-requires : tie.Need-nucleus-of-requires
 nucleus-of-requires c κs = search needs
 
--- src/lib.rt:118:13
 returns : tie.Need-returns
-returns c = 
+returns c =
     let a = c .before .before .before .before .before .args in
     ap (λ (n : Nucleus). A.Read (a .next) (a .budget) (atomOf K.Special (a .arg) n)) (c .nucleus-of .ensures)
     ∙ ap (specialAtom (a .arg) (a .next) (a .budget)) (sym (sym (c .before .before .before .before .try-from .ensures) ∙ c .before .before .special .given .1))
 
--- src/lib.rt:120:32
 enum-known-refusal : tie.Need-enum-known-refusal
 enum-known-refusal c = search needs
 
--- src/lib.rt:121:13
 returns-2 : tie.Need-returns-2
-returns-2 c = 
+returns-2 c =
     let a = c .before .before .before .before .args in
     ap (specialAtom (a .arg) (a .next) (a .budget)) (sym (sym (c .before .before .before .try-from .ensures) ∙ c .before .refusal .given .1))
 

@@ -2,14 +2,10 @@
 use borrow.Author.Tests.{lt-ltb, le-ltb}
 use Rattle.atom.proofs.update_budget.Statement.{statement}
 use Rattle.atom.proofs.update_budget.Tie as tie
-use Rattle.atom.proofs.update_budget.Reads as reads
-use Rattle.atom.proofs.update_budget.Lts as lts
 
--- src/lib.rt:59:9
 returns : tie.Need-returns
 returns c = simp (lt-ltb _ _ (c .if1 .taken))
 
--- src/lib.rt:54:1
 returns-2 : tie.Need-returns-2
 returns-2 c = simp (le-ltb _ _ (c .if1 .left))
 
