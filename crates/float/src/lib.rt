@@ -3,15 +3,28 @@
 ghost use mathlib.Core.Bool.{true};
 ghost use mathlib.Core.Path.{_≡_};
 ghost use Prim.Native.Nat.{_+_, _<_, _≤_, _^_};
+ghost use lib.Ieee.{binary32, binary64, toBits};
 ghost use lib.ListN.{length};
+ghost use Rattle.lent.specs.Lent.{writtenAnswer, writtenContent};
 ghost use Rattle.little.specs.Le.{numberAt};
 ghost use Rattle.float.specs.Floats.{allowedFloat, floatOf, floatFrom, floatRead};
+ghost use Rattle.float.specs.Bytes.{f32Bytes, f64Bytes, valueBytes};
+use binary::Narrowed16;
+use binary::Narrowed32;
 use types::Float;
 use types::FloatAnswer;
 use types::Kind;
 use types::Place;
 use types::Refusal;
 use types::Way;
+use types::Written;
+
+// The first byte of a float atom of 2, 4 or 8 bytes: its kind, and its count less 1.
+const HALF: u8 = 0x61;
+
+const SINGLE: u8 = 0x63;
+
+const DOUBLE: u8 = 0x67;
 
 // Whether a count of bytes is one that floats have.
 pub fn allowed(count: u64) -> bool
@@ -85,4 +98,52 @@ pub fn read_from(kind: Kind, count: u64, source: &[u8], place: Place, way: Way) 
 {
     let at = place.within(source.len());
     read_at(kind, count, source, at, way)
+}
+
+// Writes a float of 4 bytes by its bits, in 2 bytes if it is a binary16 value. A NaN's bits are kept.
+pub fn write_f32_bits(out: &mut [u8], bits: u32) -> Written
+    ensures { λ r. ⌜ r ≡ writtenAnswer (f32Bytes bits) (now (out .entry)) ⌝ }
+    ensures { λ r. ⌜ now (out .exit) ≡ writtenContent (f32Bytes bits) (now (out .entry)) ⌝ }
+{
+    match binary::f32_to_f16_bits(bits) {
+        Narrowed16::Pattern(half) => return little::put2(out, HALF, half as u64),
+        Narrowed16::None => return little::put4(out, SINGLE, bits as u64),
+    }
+}
+
+// Writes a float of 8 bytes by its bits, in 2 or 4 bytes if it is a binary16 or a binary32 value. A NaN's bits are kept.
+pub fn write_f64_bits(out: &mut [u8], bits: u64) -> Written
+    ensures { λ r. ⌜ r ≡ writtenAnswer (f64Bytes bits) (now (out .entry)) ⌝ }
+    ensures { λ r. ⌜ now (out .exit) ≡ writtenContent (f64Bytes bits) (now (out .entry)) ⌝ }
+{
+    match binary::f64_to_f32_bits(bits) {
+        Narrowed32::Pattern(single) => return write_f32_bits(out, single),
+        Narrowed32::None => return little::put8(out, DOUBLE, bits),
+    }
+}
+
+// Writes an atom with the given value; a NaN, which has no bits as a value, as the one with its quiet bit alone.
+pub fn write_f32(out: &mut [u8], value: f32) -> Written
+    ensures { λ r. ⌜ r ≡ writtenAnswer (f32Bytes (toBits binary32 value)) (now (out .entry)) ⌝ }
+    ensures { λ r. ⌜ now (out .exit) ≡ writtenContent (f32Bytes (toBits binary32 value)) (now (out .entry)) ⌝ }
+{
+    write_f32_bits(out, binary::f32_pattern(value))
+}
+
+pub fn write_f64(out: &mut [u8], value: f64) -> Written
+    ensures { λ r. ⌜ r ≡ writtenAnswer (f64Bytes (toBits binary64 value)) (now (out .entry)) ⌝ }
+    ensures { λ r. ⌜ now (out .exit) ≡ writtenContent (f64Bytes (toBits binary64 value)) (now (out .entry)) ⌝ }
+{
+    write_f64_bits(out, binary::f64_pattern(value))
+}
+
+// Writes this value using the smallest form possible.
+pub fn write_to(out: &mut [u8], value: Float) -> Written
+    ensures { λ r. ⌜ r ≡ writtenAnswer (valueBytes value) (now (out .entry)) ⌝ }
+    ensures { λ r. ⌜ now (out .exit) ≡ writtenContent (valueBytes value) (now (out .entry)) ⌝ }
+{
+    match value {
+        Float::F64(float) => return write_f64(out, float),
+        Float::F32(float) => return write_f32(out, float),
+    }
 }

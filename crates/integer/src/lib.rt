@@ -128,7 +128,7 @@ fn is_integer(kind: Kind) -> bool
 }
 
 // The integer of a kind, whose room the caller judged.
-pub fn integer_at(kind: Kind, source: &[u8], at: usize, count: u64) -> Integer
+fn integer_at(kind: Kind, source: &[u8], at: usize, count: u64) -> Integer
     requires { ⌜ (allowedCount count ≡ true) × (at + count ≤ length (now source)) ⌝ }
     ensures { λ r. ⌜ r ≡ integerOf kind count (numberAt count (now (source .entry)) at) ⌝ }
 {
@@ -139,7 +139,7 @@ pub fn integer_at(kind: Kind, source: &[u8], at: usize, count: u64) -> Integer
 }
 
 // The integer of a kind, bytes past the end zero.
-pub fn filled_integer(kind: Kind, source: &[u8], at: usize, count: u64) -> Integer
+fn filled_integer(kind: Kind, source: &[u8], at: usize, count: u64) -> Integer
     requires { ⌜ (allowedCount count ≡ true) × (at ≤ length (now source)) ⌝ }
     ensures { λ r. ⌜ r ≡ integerOf kind count (numberAt count (now (source .entry)) at) ⌝ }
 {

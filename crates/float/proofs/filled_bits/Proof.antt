@@ -3,15 +3,10 @@ use Rattle.float.proofs.Counts.{allowed-most}
 use borrow.Author.Needs.{needs}
 use Rattle.float.proofs.filled_bits.Statement.{statement}
 use Rattle.float.proofs.filled_bits.Tie as tie
-use Rattle.float.proofs.filled_bits.Reads as reads
-use Rattle.float.proofs.filled_bits.Lts as lts
-use Rattle.little.proofs.filled.Reads as filled-reads
 
--- src/lib.rt:57:5
 filled-requires : tie.Need-filled-requires
 filled-requires c κs = allowed-most (c .before .args .count) (c .before .pre)
 
--- src/lib.rt:53:1
 returns : tie.Need-returns
 returns c = search needs
 

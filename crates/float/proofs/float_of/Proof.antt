@@ -4,45 +4,31 @@ use Rattle.float.proofs.Counts.{bits-at, float-two, float-four, float-e
 use borrow.Author.Needs.{needs}
 use Rattle.float.proofs.float_of.Statement.{statement}
 use Rattle.float.proofs.float_of.Tie as tie
-use Rattle.float.proofs.float_of.Reads as reads
-use Rattle.float.proofs.float_of.Lts as lts
-use Rattle.binary.proofs.f16_to_f32_bits.Reads as f16-to-f32-bits-reads
-use Rattle.binary.proofs.f32_of_bits.Reads as f32-of-bits-reads
-use Rattle.binary.proofs.f64_of_bits.Reads as f64-of-bits-reads
 
--- src/lib.rt:34:76
 cast-f16-to-f32-bits : tie.Need-cast-f16-to-f32-bits
 cast-f16-to-f32-bits c = let h = bits-at (c .before .args .count) 2 (c .before .args .bits) (c .before .pre) (c .match .keys1) in omega arith
 
--- src/lib.rt:34:52
 f16-to-f32-bits-requires : tie.Need-f16-to-f32-bits-requires
 f16-to-f32-bits-requires c κs = search needs
 
--- src/lib.rt:34:32
 f32-of-bits-requires : tie.Need-f32-of-bits-requires
 f32-of-bits-requires c κs = search needs
 
--- src/lib.rt:34:14
 returns : tie.Need-returns
 returns c = float-two (c .before .before .before .args .count) (c .before .before .before .args .bits) _ _ (c .before .before .match .keys1) (c .before .f16-to-f32-bits .ensures) (c .f32-of-bits .ensures)
 
--- src/lib.rt:35:52
 cast-f32-of-bits : tie.Need-cast-f32-of-bits
 cast-f32-of-bits c = let h = bits-at (c .before .args .count) 4 (c .before .args .bits) (c .before .pre) (c .match .keys2) in omega arith
 
--- src/lib.rt:35:32
 f32-of-bits-requires-2 : tie.Need-f32-of-bits-requires-2
 f32-of-bits-requires-2 c κs = search needs
 
--- src/lib.rt:35:14
 returns-2 : tie.Need-returns-2
 returns-2 c = float-four (c .before .before .args .count) (c .before .before .args .bits) _ (c .before .match .keys2) (c .f32-of-bits2 .ensures)
 
--- src/lib.rt:36:32
 f64-of-bits-requires : tie.Need-f64-of-bits-requires
 f64-of-bits-requires c κs = search needs
 
--- src/lib.rt:36:14
 returns-3 : tie.Need-returns-3
 returns-3 c = float-eight (c .before .before .args .count) (c .before .before .args .bits) _ (c .before .match .rest .0 .1) (c .before .match .rest .1) (c .f64-of-bits .ensures)
 

@@ -7,68 +7,46 @@ use Rattle.float.proofs.Answers.{body-whole, body-filled, body-eof, fro
 use borrow.Author.Needs.{needs}
 use Rattle.float.proofs.read_at.Statement.{statement}
 use Rattle.float.proofs.read_at.Tie as tie
-use Rattle.float.proofs.read_at.Reads as reads
-use Rattle.float.proofs.read_at.Lts as lts
-use Rattle.float.proofs.allowed.Reads as allowed-reads
-use Rattle.float.proofs.filled_bits.Reads as filled-bits-reads
-use Rattle.float.proofs.float_of.Reads as float-of-reads
-use Rattle.float.proofs.stored_bits.Reads as stored-bits-reads
-use Rattle.types.proofs.Kind.code.Reads as code-reads
-use Rattle.types.proofs.Way.is_exact.Reads as is-exact-reads
 
--- src/lib.rt:65:8
 code-requires : tie.Need-code-requires
 code-requires c κs = search needs
 
--- src/lib.rt:66:9
 returns : tie.Need-returns
 returns c = let a = c .before .before .before .args in from-kind (a .way) (now (a .source)) (a .at) (a .count) (a .kind) (λ e. c .if1 .taken (c .before .code .ensures .0 ∙ e))
 
--- src/lib.rt:68:9
 allowed-requires : tie.Need-allowed-requires
 allowed-requires c κs = search needs
 
--- src/lib.rt:69:9
 returns-2 : tie.Need-returns-2
 returns-2 c = let a = c .before .before .before .before .before .args in from-count (a .way) (now (a .source)) (a .at) (a .count) (a .kind) (sym (c .before .before .before .code .ensures .0) ∙ c .before .before .if1 .left) (sym (c .before .allowed .ensures) ∙ not-true _ (c .if2 .taken))
 
--- src/lib.rt:71:18
 sub-if3 : tie.Need-sub-if3
 sub-if3 c = search needs
 
--- src/lib.rt:72:13
 stored-bits-requires : tie.Need-stored-bits-requires
 stored-bits-requires c κs = (sym (c .before .before .allowed .ensures) ∙ not-false _ (c .before .if2 .left), omega arith)
 
--- src/lib.rt:73:40
 add-t21 : tie.Need-add-t21
 add-t21 c = search needs
 
--- src/lib.rt:73:62
 float-of-requires : tie.Need-float-of-requires
 float-of-requires c κs = search needs
 
--- src/lib.rt:73:9
 returns-3 : tie.Need-returns-3
 returns-3 c = let a = c .before .before .before .before .before .before .before .before .args in body-whole (a .way) (now (a .source)) (a .at) (a .count) _ _ (c .before .stored-bits .ensures .0) (c .float-of .ensures) (omega arith) ∙ from-body (a .way) (now (a .source)) (a .at) (a .count) (a .kind) (sym (c .before .before .before .before .before .before .code .ensures .0) ∙ c .before .before .before .before .before .if1 .left) (sym (c .before .before .before .before .allowed .ensures) ∙ not-false _ (c .before .before .before .if2 .left))
 
--- src/lib.rt:75:8
 is-exact-requires : tie.Need-is-exact-requires
 is-exact-requires c κs = search needs
 
--- src/lib.rt:76:9
 returns-4 : tie.Need-returns-4
 returns-4 c = let a = c .before .before .before .before .before .before .before .before .args in body-eof (a .way) (now (a .source)) (a .at) (a .count) (omega arith) (sym (c .before .is-exact .ensures) ∙ c .if4 .taken) ∙ from-body (a .way) (now (a .source)) (a .at) (a .count) (a .kind) (sym (c .before .before .before .before .before .before .code .ensures .0) ∙ c .before .before .before .before .before .if1 .left) (sym (c .before .before .before .before .allowed .ensures) ∙ not-false _ (c .before .before .before .if2 .left))
 
--- src/lib.rt:78:9
 filled-bits-requires : tie.Need-filled-bits-requires
 filled-bits-requires c κs = sym (c .before .before .before .before .allowed .ensures) ∙ not-false _ (c .before .before .before .if2 .left)
 
--- src/lib.rt:79:44
 float-of-requires-2 : tie.Need-float-of-requires-2
 float-of-requires-2 c κs = search needs
 
--- src/lib.rt:61:1
 returns-5 : tie.Need-returns-5
 returns-5 c = let a = c .before .before .before .before .before .before .before .before .before .before .args in body-filled (a .way) (now (a .source)) (a .at) (a .count) _ _ (c .before .filled-bits .ensures .0) (c .float-of2 .ensures) (omega arith) (sym (c .before .before .before .is-exact .ensures) ∙ c .before .before .if4 .left) ∙ from-body (a .way) (now (a .source)) (a .at) (a .count) (a .kind) (sym (c .before .before .before .before .before .before .before .before .code .ensures .0) ∙ c .before .before .before .before .before .before .before .if1 .left) (sym (c .before .before .before .before .before .before .allowed .ensures) ∙ not-false _ (c .before .before .before .before .before .if2 .left))
 

@@ -4,33 +4,22 @@ use Rattle.float.proofs.Counts.{allowed-last}
 use borrow.Author.Needs.{needs}
 use Rattle.float.proofs.stored_bits.Statement.{statement}
 use Rattle.float.proofs.stored_bits.Tie as tie
-use Rattle.float.proofs.stored_bits.Reads as reads
-use Rattle.float.proofs.stored_bits.Lts as lts
-use Rattle.little.proofs.le2.Reads as le2-reads
-use Rattle.little.proofs.le4.Reads as le4-reads
-use Rattle.little.proofs.le8.Reads as le8-reads
 
--- src/lib.rt:46:14
 le2-requires : tie.Need-le2-requires
 le2-requires c κs = search needs
 
--- src/lib.rt:46:14
 returns : tie.Need-returns
 returns c = rw (c .before .match .keys1) (c .le2 .ensures)
 
--- src/lib.rt:47:14
 le4-requires : tie.Need-le4-requires
 le4-requires c κs = search needs
 
--- src/lib.rt:47:14
 returns-2 : tie.Need-returns-2
 returns-2 c = rw (c .before .match .keys2) (c .le4 .ensures)
 
--- src/lib.rt:48:14
 le8-requires : tie.Need-le8-requires
 le8-requires c κs = let e = allowed-last (c .before .before .args .count) (c .before .before .pre .0) (c .match .rest .0 .1) (c .match .rest .1) in omega arith
 
--- src/lib.rt:48:14
 returns-3 : tie.Need-returns-3
 returns-3 c = rw (allowed-last (c .before .before .before .args .count) (c .before .before .before .pre .0) (c .before .match .rest .0 .1) (c .before .match .rest .1)) (c .le8 .ensures)
 
