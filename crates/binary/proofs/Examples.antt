@@ -1,8 +1,8 @@
 -- Edges of document 01 and of IEEE 754, one theorem over the definitions: antt computes each.
 use mathlib.Core.Path.{_≡_, refl}
 use mathlib.Core.Bool.{true, false}
-use Prim.Native.Nat.{_*_, _^_}
-use Rattle.binary.specs.Formats.{half, single, double, finite, infinite, nan, smallests, meaning}
+use Prim.Native.Nat.{_^_}
+use Rattle.binary.specs.Formats.{half, single, double, finite, smallests, meaning}
 use Rattle.binary.specs.Conversions.{packed, widened, exact, lost, narrowed}
 use lib.Ieee.{span, climb, size}
 

@@ -2,15 +2,15 @@
 -- And what it means: `narrows`, with `one-answer`, that no other answer does.
 use mathlib.Core.Path.{_≡_, refl, sym, ap, _∙_, subst}
 use mathlib.Core.Bool.{Bool, true, false, cond, _&&_}
-use Prim.Native.Nat.{ℕ, zero, suc, _+_, _*_, _/_, _%_, _^_, _≤_, _<_}
+use Prim.Native.Nat.{ℕ, _+_, _*_, _/_, _%_, _<_}
 use native.Mathlib.Nat.{mod-lt, div-add-mod', div-lt-iff-lt-mul, le-of-eq, le-of-lt, add-zero}
 use native.Mathlib.Omega.{arith}
-use lib.Dec.{leb, ltb, eqb}
+use lib.Dec.{ltb, eqb}
 use lib.Pow.{pow-pos}
 use borrow.Author.Tests.{ltb-true, eqb-true}
-use Rattle.binary.specs.Formats.{Layout, leading, signWeight, allOnes, unit, negative, exponent, fraction, magnitude, Meaning, finite, infinite, nan, meaning, Number, SameValue}
+use Rattle.binary.specs.Formats.{Layout, leading, signWeight, allOnes, negative, exponent, fraction, magnitude, Meaning, finite, infinite, nan, meaning, Number}
 use Rattle.binary.specs.Conversions.{signed, infinity, candidate, has, Narrowed, exact, lost, narrowedMeaning, narrowed, Narrows}
-use Rattle.binary.proofs.Patterns.{rest-lt, signed-lt, exponent-le, fraction-lt, meaning-signed, meant-finite, meant-infinite, Reading, is-finite, is-infinite, is-nan, reading, one-pattern, candidate-is, has-it}
+use Rattle.binary.proofs.Patterns.{rest-lt, signed-lt, fraction-lt, meaning-signed, meant-finite, meant-infinite, Reading, is-finite, is-infinite, is-nan, reading, one-pattern, candidate-is, has-it}
 
 pub narrowed-by : (from to : Layout) (b : ℕ) (m : Meaning) → meaning from b ≡ m → narrowed from to b ≡ narrowedMeaning to m
 unfolding narrowed

@@ -2,14 +2,14 @@
 -- So a meaning has one pattern (`one-pattern`), and a magnitude that a format has is found by `candidate` (`candidate-is`, `has-it`).
 use mathlib.Core.Path.{_≡_, refl, sym, ap, _∙_, subst}
 use mathlib.Core.Logic.{_⊎_, inl, inr}
-use mathlib.Core.Bool.{Bool, true, false, cond, _&&_}
-use Prim.Native.Nat.{ℕ, zero, suc, _+_, _-_, _*_, _/_, _%_, _^_, _≤_, _<_}
-use native.Mathlib.Nat.{mod-lt, mod-eq-of-lt, mod-eq-sub-mod, add-mod-left, mul-add-mod-self-right, add-sub-of-le, div-add-mod', mod-mod-of-dvd, dvd-mul-left, div-lt-iff-lt-mul, mul-div-cancel, eq-of-mul-eq-mul-right, eq-zero-or-pos, zero-add, eq-or-lt-of-le, sub-lt-left-of-lt-add}
+use mathlib.Core.Bool.{Bool, true, false, cond}
+use Prim.Native.Nat.{ℕ, _+_, _-_, _*_, _/_, _%_, _^_, _≤_, _<_}
+use native.Mathlib.Nat.{mod-lt, mod-eq-of-lt, mod-eq-sub-mod, add-mod-left, mul-add-mod-self-right, add-sub-of-le, div-add-mod', mod-mod-of-dvd, dvd-mul-left, div-lt-iff-lt-mul, mul-div-cancel, eq-of-mul-eq-mul-right, eq-zero-or-pos, zero-add, eq-or-lt-of-le}
 use native.Mathlib.Omega.{arith}
 use lib.Arith.{digits-lt, digits-div, digits-mod}
-use lib.Dec.{leb, ltb, eqb}
-use lib.Pow.{pow-add, pow-pos, suc-ones}
-use borrow.Author.Tests.{lt-ltb, le-ltb, le-leb, lt-leb, eq-eqb, ne-eqb, leb-true, leb-false}
+use lib.Dec.{leb, eqb}
+use lib.Pow.{pow-add, pow-pos}
+use borrow.Author.Tests.{lt-ltb, le-leb, lt-leb, eq-eqb, ne-eqb, leb-true, leb-false}
 use Rattle.binary.specs.Formats.{Layout, leading, signWeight, allOnes, unit, negative, exponent, fraction, smallests, magnitude, Meaning, finite, infinite, nan, meaning}
 use Rattle.binary.specs.Conversions.{signed, infinity, packed, candidate, has}
 use Rattle.binary.proofs.Smallests.{packed-smallests, same-fields}

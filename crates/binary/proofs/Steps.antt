@@ -2,8 +2,8 @@
 use mathlib.Core.Path.{_≡_, refl, sym, ap, _∙_, subst}
 use mathlib.Core.Logic.{_⊎_, inl, inr}
 use mathlib.Core.Bool.{Bool, true, false, cond}
-use Prim.Native.Nat.{ℕ, zero, suc, _+_, _-_, _*_, _/_, _%_, _^_, _≤_, _<_}
-use native.Mathlib.Nat.{eq-or-lt-of-le, suc-mul, le-of-lt, lt-of-le-of-lt, mul-le-mul-right, pow-suc, le-of-eq, le-trans, le-of-mul-le-mul-right, mul-assoc, mul-comm, mul-mod-left, div-add-mod', add-zero, mul-one, lt-of-lt-of-le, div-mul-le-self, mod-eq-of-lt, mul-div-cancel, zero-add, zero-mul}
+use Prim.Native.Nat.{ℕ, suc, _+_, _-_, _*_, _/_, _%_, _^_, _≤_, _<_}
+use native.Mathlib.Nat.{eq-or-lt-of-le, suc-mul, le-of-lt, lt-of-le-of-lt, mul-le-mul-right, pow-suc, le-of-eq, le-trans, le-of-mul-le-mul-right, mul-assoc, mul-mod-left, div-add-mod', add-zero, lt-of-lt-of-le, div-mul-le-self, mod-eq-of-lt, mul-div-cancel, zero-add, zero-mul}
 use native.Mathlib.Omega.{arith}
 use lib.Arith.{digits-div}
 use lib.Dec.{leb}

@@ -1,9 +1,8 @@
 -- What `widened` answers: by the fields that the number has in the wider format (`widens-to`), the infinity, and a NaN's bits.
-use mathlib.Core.Path.{_≡_, refl, sym, ap, _∙_}
-use mathlib.Core.Bool.{Bool}
+use mathlib.Core.Path.{_≡_, ap, _∙_}
 use Prim.Native.Nat.{ℕ, _+_, _-_, _*_, _^_, _<_}
 use native.Mathlib.Omega.{arith}
-use Rattle.binary.specs.Formats.{Layout, leading, signWeight, allOnes, negative, exponent, fraction, magnitude, Meaning, finite, infinite, nan, meaning}
+use Rattle.binary.specs.Formats.{Layout, leading, allOnes, negative, exponent, fraction, magnitude, Meaning, finite, infinite, nan, meaning}
 use Rattle.binary.specs.Conversions.{signed, infinity, candidate, quieted, widenedMeaning, widened}
 use Rattle.binary.proofs.Patterns.{Reading, is-finite, is-infinite, is-nan, reading, candidate-is}
 use Rattle.binary.proofs.Narrowing.{finite-meaning}

@@ -3,7 +3,7 @@ use Prim.Native.Nat.{ℕ, _+_, _-_, _*_, _/_, _%_, _^_}
 use mathlib.Core.Bool.{Bool, cond, _&&_}
 use lib.Dec.{ltb, eqb}
 use lib.Ieee.{size}
-use Rattle.binary.specs.Formats.{Layout, single, half, double, leading, signWeight, allOnes, unit, magnitude, Meaning, finite, infinite, nan, meaning, SameValue}
+use Rattle.binary.specs.Formats.{Layout, leading, signWeight, allOnes, unit, magnitude, Meaning, finite, infinite, nan, meaning, SameValue}
 use Rattle.binary.specs.declared.Narrowed16 as N16
 use Rattle.binary.specs.declared.Narrowed32 as N32
 

@@ -1,6 +1,6 @@
 -- A float value of the logic, read as a meaning: what `ofBits` of a pattern is to be compared with. The logic has one NaN, without sign or payload.
 use Prim.Native.Nat.{ℕ, _+_, _-_, _*_, _^_}
-use mathlib.Core.Bool.{Bool, true, false}
+use mathlib.Core.Bool.{false}
 use lib.IntN.{ℤ, pos, negsuc}
 use lib.Ieee.{Float, Format, binary32, binary64}
 use lib.Ieee as I

@@ -1,6 +1,6 @@
 -- `binary::f32_to_f64_bits` meets its contract: each branch is a lemma of `Steps` or `Widening`, at this pair of formats, and the sign goes to its place in the wider one.
-use mathlib.Core.Path.{_≡_, sym, ap, _∙_, subst}
-use Prim.Native.Nat.{ℕ, _+_, _*_, _/_, _%_, _<_}
+use mathlib.Core.Path.{sym, ap, _∙_, subst}
+use Prim.Native.Nat.{ℕ, _+_, _*_, _/_, _<_}
 use native.Mathlib.Omega.{arith}
 use lib.Dec.{lit<}
 use borrow.Author.Needs.{needs}

@@ -1,5 +1,5 @@
 -- `binary::subnormal_f32` meets its contract: a subnormal number's leading digit goes up to where a normal number has it, by as many places as the zeros above it say.
-use mathlib.Core.Path.{_≡_, sym, ap, _∙_}
+use mathlib.Core.Path.{sym, ap, _∙_}
 use Prim.Native.Nat.{ℕ, _<_}
 use native.Mathlib.Omega.{arith}
 use lib.Dec.{lit<}
