@@ -271,7 +271,6 @@ pub fn write_to(out: &mut [u8], integer: Integer) -> Written
     }
 }
 
-
 // How many bytes the header of a string takes.
 fn header_length(arg: u64) -> usize
     ensures { λ r. ⌜ (r ≡ length (headerBytes Bytes arg)) × (r ≤ 10) ⌝ }
