@@ -6,21 +6,18 @@ use mathlib.Core.List.{List, [], _∷_, _++_}
 use Prim.Native.Nat.{ℕ, _+_, _-_, _*_, _/_, _^_, _≤_, _<_}
 use native.Mathlib.Omega.{arith}
 use lib.Dec.{leb, lit<, lit≤}
-use lib.IntN.{ℤ, pos, negsuc}
-use lib.ListN.{length}
+use lib.IntN.{ℤ}
 use lib.Signed.{mag}
 use borrow.Author.Tests.{lt-ltb, le-ltb, leb-true}
 use Rattle.types.specs.Choice.{pick}
 use Rattle.types.specs.Kinds.{kindCode}
 use Rattle.types.specs.declared.Kind.{Kind}
 use Rattle.types.specs.declared.Kind.the-variants as K
-use Rattle.types.specs.declared.Written.{Written}
-use Rattle.lent.specs.Lent.{writtenAnswer, writtenContent}
 use Rattle.header.proofs.Answers.{bytes-one}
 use Rattle.little.specs.Le.{toLE}
-use Rattle.little.specs.Twos.{twos, twosBits}
+use Rattle.little.specs.Twos.{twosBits}
 use Rattle.little.specs.Counts.{counts, firstThat, holdsU, holdsS, shortestU, shortestS}
-use Rattle.little.proofs.Two.{held-mag, mag-held, mag-not-held, holdsU-more, holdsS-more, low-bytes}
+use Rattle.little.proofs.Two.{mag-held, mag-not-held, holdsU-more, holdsS-more, low-bytes}
 use Rattle.writers.specs.Bytes.{integerBytes, signedBytes, unsignedBytes}
 
 -- the header of a number is one byte, since its count is at most 16

@@ -14,7 +14,7 @@ use Rattle.little.specs.Twos.{twos, twosBits}
 use Rattle.little.specs.Counts.{holdsS}
 use Rattle.little.proofs.Width.{to-words, to-low, from-to-fits}
 use Rattle.little.proofs.Two.{twos-held, twos-bits, bits-twos, bits-lt, low-bytes, held-mag, not-held-mag}
-use Rattle.little.proofs.Words.{near-zero, near-ones, far-zero, far-ones, far-between}
+use Rattle.little.proofs.Words.{near-zero, near-ones, far-zero, far-ones}
 use Rattle.writers.specs.Bytes.{signedBytes, unsignedBytes}
 use Rattle.writers.proofs.Levels.{signed-level, unsigned-level, after-8}
 

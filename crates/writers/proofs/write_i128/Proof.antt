@@ -7,10 +7,9 @@ use lib.Dec.{lit<}
 use mir.Syntax.{w64}
 use mir.ValLaws.{toZ-ofZ}
 use Rattle.little.specs.Le.{toLE}
-use Rattle.integer.specs.Integers.{wideBits}
-use Rattle.writers.specs.Bytes.{signedBytes, unsignedBytes, wideSigned}
+use Rattle.writers.specs.Bytes.{signedBytes, wideSigned}
 use Rattle.writers.proofs.Wrote.{wrote}
-use Rattle.writers.proofs.Words.{held-low, signed-words, unsigned-words}
+use Rattle.writers.proofs.Words.{held-low, signed-words}
 use borrow.Author.Needs.{needs}
 use borrow.Author.Needs.{needs}
 use borrow.Author.Needs.{needs}
