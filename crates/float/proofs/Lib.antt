@@ -1,3 +1,6 @@
 pub mod Counts
 pub mod Answers
 pub mod Writes
+pub mod Units
+pub mod Compared
+pub mod Patterns
