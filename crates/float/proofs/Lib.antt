@@ -4,3 +4,4 @@ pub mod Writes
 pub mod Units
 pub mod Compared
 pub mod Patterns
+pub mod Stored
