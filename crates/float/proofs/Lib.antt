@@ -5,3 +5,4 @@ pub mod Units
 pub mod Compared
 pub mod Patterns
 pub mod Stored
+pub mod RoundTrip

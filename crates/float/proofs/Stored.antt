@@ -17,7 +17,7 @@ use Rattle.binary.specs.Conversions.{signed, infinity, Narrowed, exact, lost, w
 use Rattle.binary.specs.Floats.{floatMeaning, plain}
 use Rattle.binary.proofs.Patterns.{one-pattern}
 use Rattle.binary.proofs.Widths.{half-single, single-double}
-use Rattle.binary.proofs.Laws.{narrowed-sound, narrowed-complete, narrowed-lost, narrowed-nan, narrowed-zero, narrowed-infinite, widened-lt, widened-keeps, widened-narrowed}
+use Rattle.binary.proofs.Laws.{narrowed-sound, narrowed-complete, narrowed-lost, narrowed-nan, narrowed-zero, narrowed-infinite, widened-lt, widened-keeps, widened-narrowed, widened-nan}
 use Rattle.binary.proofs.Values.{ofBits-means, narrowed-value}
 use Rattle.float.specs.Floats.{allowedFloat, floatOf, layoutAt}
 use Rattle.float.specs.Bytes.{floatBytes, f32Bytes, f64Bytes, storedBytes}
@@ -41,17 +41,37 @@ pub record Stored (own bits : ℕ) (bytes : List ℕ) : Type 0 where
   -- no fewer bytes hold the value
   pub fewest : (c q : ℕ) → Allowed c → q < 256 ^ c → Number (meaning (layoutAt own) bits) → meaning (layoutAt c) q ≡ meaning (layoutAt own) bits → count ≤ c
 
+-- ---- what is read means what is stored
+
+widened-plain : (b : ℕ) → plain (meaning single (widened half single b)) ≡ plain (meaning half b)
+widened-plain b = go (meaning half b) refl
+  where
+    go : (m : Meaning) → meaning half b ≡ m → plain (meaning single (widened half single b)) ≡ plain (meaning half b)
+    go (finite s m) e = ap plain (widened-keeps half-single b (subst Number (sym e) tt))
+    go (infinite s) e = ap plain (widened-keeps half-single b (subst Number (sym e) tt))
+    go (nan s t) e = ap plain (widened-nan half single b s t (lit< tt) e) ∙ sym (ap plain e)
+
+-- the sign and the magnitude of the stored bits, the infinity, or the NaN
+pub float-means : (c b : ℕ) → Allowed c → floatMeans (floatOf c b) ≡ plain (meaning (layoutAt c) b)
+unfolding floatOf
+float-means c b (two e) = rw e (ofBits-means binary32 (widened half single b) ∙ widened-plain b)
+float-means c b (four e) = rw e (ofBits-means binary32 b)
+float-means c b (eight e) = rw e (ofBits-means binary64 b)
+
+pub meaning-kept : (own bits : ℕ) (bytes : List ℕ) → Allowed own → (S : Stored own bits bytes) → floatMeans (floatOf (S .count) (S .stored)) ≡ plain (meaning (layoutAt own) bits)
+meaning-kept own bits bytes a S = ap floatMeaning (S .value) ∙ float-means own bits a
+
 -- ---- each width that is stored as it is
 
-value-two : (q : ℕ) → floatValue (floatOf 2 q) ≡ ofBits binary32 (widened half single q)
+pub value-two : (q : ℕ) → floatValue (floatOf 2 q) ≡ ofBits binary32 (widened half single q)
 unfolding floatOf
 value-two q = refl
 
-value-four : (q : ℕ) → floatValue (floatOf 4 q) ≡ ofBits binary32 q
+pub value-four : (q : ℕ) → floatValue (floatOf 4 q) ≡ ofBits binary32 q
 unfolding floatOf
 value-four q = refl
 
-value-eight : (q : ℕ) → floatValue (floatOf 8 q) ≡ ofBits binary64 q
+pub value-eight : (q : ℕ) → floatValue (floatOf 8 q) ≡ ofBits binary64 q
 unfolding floatOf
 value-eight q = refl
 
@@ -176,3 +196,75 @@ module _ (b : ℕ) (B : b < 256 ^ 8) where
 
   pub stored-double : Stored 8 b (f64Bytes b)
   stored-double = double-by (narrowed double single b) refl
+
+-- ---- any width
+
+pub stored-any : (c b : ℕ) → Allowed c → b < 256 ^ c → Stored c b (storedBytes c b)
+unfolding storedBytes
+stored-any c b (two e) h = rw e (stored-half b (at-count c 2 b e h))
+stored-any c b (four e) h = rw e (stored-single b (at-count c 4 b e h))
+stored-any c b (eight e) h = rw e (stored-double b (at-count c 8 b e h))
+
+-- ---- what is stored goes by the value alone
+
+pub pattern-lt : (c q : ℕ) → Allowed c → q < 256 ^ c → q < 2 * signWeight (layoutAt c)
+pattern-lt c q (two e) h = rw e (at-count c 2 q e h)
+pattern-lt c q (four e) h = rw e (at-count c 4 q e h)
+pattern-lt c q (eight e) h = rw e (at-count c 8 q e h)
+
+level : (a b : ℕ) → a ≤ b → b ≤ a → a ≡ b
+level a b p q = omega arith
+
+-- equal numbers have equal bytes, whatever the widths that they come from
+pub one-form : (own bits own′ bits′ : ℕ) (bytes bytes′ : List ℕ) → Stored own bits bytes → Stored own′ bits′ bytes′
+    → Number (meaning (layoutAt own) bits) → meaning (layoutAt own) bits ≡ meaning (layoutAt own′) bits′ → bytes ≡ bytes′
+one-form own bits own′ bits′ bytes bytes′ S S′ n e =
+    let n′ : Number (meaning (layoutAt own′) bits′) = number-of (meaning (layoutAt own′) bits′) (meaning (layoutAt own) bits) (sym e) n in
+    let a = allowed-is (S .count) (S .its-count) in
+    let a′ = allowed-is (S′ .count) (S′ .its-count) in
+    let c : S .count ≡ S′ .count =
+    level (S .count) (S′ .count)
+    (S .fewest (S′ .count) (S′ .stored) a′ (S′ .its-room) n (S′ .number n′ ∙ sym e))
+    (S′ .fewest (S .count) (S .stored) a (S .its-room) n′ (S .number n ∙ e)) in
+    let m : meaning (layoutAt (S′ .count)) (S .stored) ≡ meaning (layoutAt (S′ .count)) (S′ .stored) =
+    at-layout (S .count) (S′ .count) (S .stored) (meaning (layoutAt (S′ .count)) (S′ .stored)) c (S .number n ∙ e ∙ sym (S′ .number n′)) in
+    let q : S .stored ≡ S′ .stored =
+    one-pattern (layoutAt (S′ .count)) (S .stored) (S′ .stored)
+    (pattern-lt (S′ .count) (S .stored) a′ (at-count (S .count) (S′ .count) (S .stored) c (S .its-room)))
+    (pattern-lt (S′ .count) (S′ .stored) a′ (S′ .its-room)) m in
+    S .its-bytes ∙ ap (λ (x : ℕ). floatBytes x (S .stored)) c ∙ ap (floatBytes (S′ .count)) q ∙ sym (S′ .its-bytes)
+
+-- what the writers wrote, written anew, stays
+pub stays : (own bits : ℕ) → Allowed own → bits < 256 ^ own → (S : Stored own bits (storedBytes own bits)) → storedBytes (S .count) (S .stored) ≡ floatBytes (S .count) (S .stored)
+stays own bits a h S = go (meaning (layoutAt own) bits) refl
+  where
+    again : Stored (S .count) (S .stored) (storedBytes (S .count) (S .stored))
+    again = stored-any (S .count) (S .stored) (allowed-is (S .count) (S .its-count)) (S .its-room)
+
+    kept : Number (meaning (layoutAt own) bits) → storedBytes (S .count) (S .stored) ≡ floatBytes (S .count) (S .stored)
+    kept n =
+        one-form (S .count) (S .stored) own bits (storedBytes (S .count) (S .stored)) (storedBytes own bits) again S
+        (number-of (meaning (layoutAt (S .count)) (S .stored)) (meaning (layoutAt own) bits) (S .number n) n) (S .number n)
+        ∙ S .its-bytes
+
+    go : (m : Meaning) → meaning (layoutAt own) bits ≡ m → storedBytes (S .count) (S .stored) ≡ floatBytes (S .count) (S .stored)
+    go (finite s m) e = kept (number-of (meaning (layoutAt own) bits) (finite s m) e tt)
+    go (infinite s) e = kept (number-of (meaning (layoutAt own) bits) (infinite s) e tt)
+    go (nan s t) e =
+        let k = S .nan-kept s t e in
+        ap (λ (x : ℕ). storedBytes x (S .stored)) (k .0) ∙ ap (storedBytes own) (k .1) ∙ S .its-bytes
+
+-- ---- "Both zeros and both infinities take 2 bytes."
+
+module _ (own bits : ℕ) (bytes : List ℕ) (S : Stored own bits bytes) where
+  -- a number that binary16 has takes 2 bytes, its pattern there
+  pub takes-two : (q : ℕ) → narrowed (layoutAt own) half bits ≡ exact q → bytes ≡ floatBytes 2 q
+  takes-two q h =
+      let v = narrowed-sound (layoutAt own) half bits q h in
+      one-form own bits 2 q bytes (floatBytes 2 q) S (stored-half q (v .0)) (v .1) (sym (v .2))
+
+  pub zero-two : (s : Bool) → meaning (layoutAt own) bits ≡ finite s 0 → bytes ≡ floatBytes 2 (signed half s 0)
+  zero-two s e = takes-two (signed half s 0) (narrowed-zero (layoutAt own) half bits s (lit< tt) e)
+
+  pub infinity-two : (s : Bool) → meaning (layoutAt own) bits ≡ infinite s → bytes ≡ floatBytes 2 (signed half s (infinity half))
+  infinity-two s e = takes-two (signed half s (infinity half)) (narrowed-infinite (layoutAt own) half bits s e)
