@@ -6,7 +6,9 @@ use native.Mathlib.Nat.{add-zero, zero-mul, le-of-lt, le-of-eq, mod-lt, pow-suc}
 use native.Mathlib.Omega.{arith}
 use lib.Pow.{pow-pos}
 use Rattle.binary.specs.Formats.{Layout, leading, signWeight, allOnes, negative, exponent, fraction, unit, smallests, magnitude, finite, infinite, nan, meaning, Number, SameValue}
-use Rattle.binary.specs.Conversions.{signed, infinity, quieted, widened, Narrowed, exact, lost, narrowedMeaning, narrowed, Narrows, through}
+use Rattle.binary.specs.Conversions.{signed, infinity, quieted, widened, Narrowed, exact, lost, narrowedMeaning, narrowed, Narrows, through, answer16, answer32}
+use Rattle.binary.specs.declared.Narrowed16 as N16
+use Rattle.binary.specs.declared.Narrowed32 as N32
 use Rattle.binary.proofs.Patterns.{rest-lt, signed-lt, fraction-lt, meaning-signed, meant-finite, meant-nan, Reading, is-finite, is-infinite, is-nan, reading, one-pattern}
 use Rattle.binary.proofs.Narrowing.{narrows, one-answer, infinite-here, infinity-lt}
 use Rattle.binary.proofs.Widths.{Widens, lifted}
@@ -123,3 +125,34 @@ widened-nan from to b s t p h =
     ap (meaning to) (widened-by from to b (nan s t) h)
     ∙ meaning-signed to s (allOnes to) u (le-of-eq refl) l
     ∙ meant-nan to s (allOnes to) u refl (quieted-pos (2 ^ (to .fractionBits - 1)) (t * 2 ^ (to .fractionBits - from .fractionBits) % 2 ^ (to .fractionBits - 1)) (pow-pos (to .fractionBits - 1)))
+
+-- a widened pattern, a NaN's too, is one of the wider format
+pub widened-in : {narrow wide : Layout} (W : Widens narrow wide) → 0 < wide .fractionBits → (b : ℕ) → widened narrow wide b < 2 * signWeight wide
+widened-in {narrow} {wide} W p b = go (reading narrow b)
+  where
+    go : Reading narrow b → widened narrow wide b < 2 * signWeight wide
+    go (is-finite e m) = widened-lt W b (subst Number (sym m) tt)
+    go (is-infinite e z m) = widened-lt W b (subst Number (sym m) tt)
+    go (is-nan e n m) =
+        let s = negative narrow b in
+        let x = fraction narrow b * 2 ^ (wide .fractionBits - narrow .fractionBits) in
+        rw (widened-by narrow wide b (nan s (fraction narrow b)) m)
+        (signed-lt wide s (infinity wide + quieted wide x) (rest-lt wide (allOnes wide) (quieted wide x) (le-of-eq refl) (quieted-lt (wide .fractionBits) x p)))
+
+-- ---- from the code's answers to the definition's
+
+pub exact16 : (n : Narrowed) (q : ℕ) → answer16 n ≡ N16.the-variants.Pattern q → n ≡ exact q
+exact16 (exact r) q h = let e : r ≡ q = cc in ap exact e
+exact16 lost q h = absurd (let z : _≡_ {A = ℕ} 0 1 = cc in omega arith)
+
+pub lost16 : (n : Narrowed) → answer16 n ≡ N16.the-variants.None → n ≡ lost
+lost16 (exact r) h = absurd (let z : _≡_ {A = ℕ} 0 1 = cc in omega arith)
+lost16 lost h = refl
+
+pub exact32 : (n : Narrowed) (q : ℕ) → answer32 n ≡ N32.the-variants.Pattern q → n ≡ exact q
+exact32 (exact r) q h = let e : r ≡ q = cc in ap exact e
+exact32 lost q h = absurd (let z : _≡_ {A = ℕ} 0 1 = cc in omega arith)
+
+pub lost32 : (n : Narrowed) → answer32 n ≡ N32.the-variants.None → n ≡ lost
+lost32 (exact r) h = absurd (let z : _≡_ {A = ℕ} 0 1 = cc in omega arith)
+lost32 lost h = refl

@@ -14,11 +14,11 @@ use lib.Ieee.Bits.{ofBits-fits, ofBits-toBits, toBits-lt}
 use lib.Ieee.Exact.{HasValue, odd-sign}
 use lib.Ieee.Fits.{and-l, and-r, down-pos, fits-widens}
 use borrow.Author.Tests.{leb-true, leb-false}
-use Rattle.binary.specs.Formats.{single, double, leading, signWeight, allOnes, unit, negative, exponent, fraction, smallests, magnitude, Meaning, finite, infinite, nan, meaning, Number}
+use Rattle.binary.specs.Formats.{Layout, half, single, double, leading, signWeight, allOnes, unit, negative, exponent, fraction, smallests, magnitude, Meaning, finite, infinite, nan, meaning, Number}
 use Rattle.binary.specs.Conversions.{quieted, widened, exact, narrowed}
 use Rattle.binary.specs.Floats.{layoutOf, unitsOf, floatMeaning, plain}
 use Rattle.binary.proofs.Patterns.{meant, meaning-is, meant-finite, Reading, is-finite, is-infinite, is-nan, reading, one-pattern}
-use Rattle.binary.proofs.Widths.{single-double}
+use Rattle.binary.proofs.Widths.{half-single, single-double}
 use Rattle.binary.proofs.Laws.{narrowed-complete, widened-lt, widened-keeps, widened-narrowed, widened-nan}
 
 -- ---- a float that is a fraction of 2 ^ l, in units of 2 ^ -1074
@@ -171,9 +171,27 @@ nan-float I.nan h = refl
 nan-float (I.inf s) h = absurd (differ' s (sym h))
 nan-float (I.fin s m e) h = absurd (differ s (unitsOf m e) (sym h))
 
--- a NaN's pattern is read as the NaN, and no other is
+nan-means : floatMeaning I.nan ≡ nan false 0
+unfolding floatMeaning
+nan-means = refl
+
+-- a NaN's pattern is read as the NaN, and no other is (`value-nan`)
 pub nan-value : (f : Format) (b : ℕ) (s : Bool) (t : ℕ) → meaning (layoutOf f) b ≡ nan s t → ofBits f b ≡ I.nan
 nan-value f b s t h = nan-float (ofBits f b) (ofBits-means f b ∙ ap plain h)
+
+pub value-nan : (f : Format) (b : ℕ) → ofBits f b ≡ I.nan → (s : Bool) × (t : ℕ) × (meaning (layoutOf f) b ≡ nan s t)
+value-nan f b h = go (reading (layoutOf f) b)
+  where
+    l : Layout
+    l = layoutOf f
+
+    read : nan false 0 ≡ plain (meaning l b)
+    read = sym nan-means ∙ ap floatMeaning (sym h) ∙ ofBits-means f b
+
+    go : Reading l b → (s : Bool) × (t : ℕ) × (meaning l b ≡ nan s t)
+    go (is-finite e m) = absurd (differ (negative l b) (magnitude l (exponent l b) (fraction l b)) (read ∙ ap plain m))
+    go (is-infinite e z m) = absurd (differ' (negative l b) (read ∙ ap plain m))
+    go (is-nan e n m) = (negative l b, fraction l b, m)
 
 number-float : (x : Float) → T (not (isNan x)) → Number (floatMeaning x)
 unfolding isNan floatMeaning
@@ -222,3 +240,13 @@ value-narrows x F n =
     let d : meaning double (toBits binary64 x) ≡ floatMeaning x = plain-number (meaning double (toBits binary64 x)) (floatMeaning x) (toBits-means binary64 x G ∙ sym (plain-is (floatMeaning x) k)) k in
     let s : meaning single (toBits binary32 x) ≡ floatMeaning x = plain-number (meaning single (toBits binary32 x)) (floatMeaning x) (toBits-means binary32 x F ∙ sym (plain-is (floatMeaning x) k)) k in
     narrowed-complete double single (toBits binary64 x) (toBits binary32 x) (toBits-lt binary32 x F, subst Number (sym d) k, s ∙ sym d)
+
+-- ---- a binary16 pattern is read through binary32
+
+pub half-value : (h : ℕ) → floatMeaning (ofBits binary32 (widened half single h)) ≡ plain (meaning half h)
+half-value h = ofBits-means binary32 (widened half single h) ∙ go (reading half h)
+  where
+    go : Reading half h → plain (meaning single (widened half single h)) ≡ plain (meaning half h)
+    go (is-finite e m) = ap plain (widened-keeps half-single h (subst Number (sym m) tt))
+    go (is-infinite e z m) = ap plain (widened-keeps half-single h (subst Number (sym m) tt))
+    go (is-nan e n m) = ap plain (widened-nan half single h (negative half h) (fraction half h) (lit< tt) m) ∙ sym (ap plain m)

@@ -326,7 +326,7 @@ impl Way {
     pub fn unnamed() -> Way
         ensures { λ r. ⌜ r ≡ unnamedWay ⌝ }
     {
-        Way::Filled
+        return Way::Filled;
     }
 
     // Whether anything past the end is refused.
@@ -350,7 +350,7 @@ impl Place {
         if length < place {
             return length;
         }
-        place
+        return place;
     }
 }
 
@@ -377,6 +377,6 @@ impl Refusal {
     pub fn no_room(needed: usize) -> Refusal
         ensures { λ r. ⌜ r ≡ noRoom needed ⌝ }
     {
-        Refusal::NoRoom
+        return Refusal::NoRoom;
     }
 }

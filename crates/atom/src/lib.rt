@@ -1,0 +1,264 @@
+// One atom: its header, its charge, and its body, in the order of document 01, "Charges". format.rs, `read_atom` to
+// `update_budget`.
+ghost use mathlib.Core.Path.{_≡_};
+ghost use mathlib.Core.Bool.{true};
+ghost use mathlib.Core.List.{[]};
+ghost use Prim.Native.Nat.{_≤_, _<_, _+_, _-_, _^_};
+ghost use lib.ListN.{length};
+ghost use Rattle.types.specs.Kinds.{specialFrom};
+ghost use Rattle.types.specs.Ways.{unnamedWay};
+ghost use Rattle.types.specs.declared.Kind.the-variants as K;
+ghost use Rattle.types.specs.declared.Nucleus.the-variants as N;
+ghost use Rattle.integer.specs.Integers.{integerKind};
+ghost use Rattle.float.specs.Floats.{floatOf};
+ghost use Rattle.atom.specs.Charges.{countOf, numberCharge, budgetAfter};
+ghost use Rattle.atom.specs.Atoms.{atomOf, specialNucleus, specialAtom, integerAfter, floatAfter, bytesAfter, scratchCharged, atomAfter, scratchAfter, atomRead, atomScratch};
+use types::Atom;
+use types::AtomAnswer;
+use types::Budget;
+use types::BudgetAnswer;
+use types::BytesAnswer;
+use types::HeaderAnswer;
+use types::Integer;
+use types::Kind;
+use types::Mark;
+use types::Nucleus;
+use types::Place;
+use types::Refusal;
+use types::Special;
+use types::SpecialAnswer;
+use types::Way;
+
+// The byte count of a number's argument, modulo 2^64 as in the release build.
+pub fn count_of(arg: u64) -> u64
+    ensures { λ r. ⌜ (r ≡ countOf arg) × (r < 2 ^ 64) ⌝ }
+{
+    if arg == 0xFFFF_FFFF_FFFF_FFFF {
+        return 0;
+    }
+    arg + 1
+}
+
+// What a number of that many bytes takes in memory: some are stored more compactly than they are held.
+pub fn in_memory_int_size(encoded_length: u64) -> u64
+    ensures { λ r. ⌜ r ≡ numberCharge «encoded_length» ⌝ }
+{
+    match encoded_length {
+        3 => 4,
+        6 => 8,
+        _ => encoded_length,
+    }
+}
+
+// The budget less what is read, or refusal 5.
+pub fn update_budget(budget: Budget, read_amount: u64) -> BudgetAnswer
+    ensures { λ r. ⌜ r ≡ budgetAfter budget «read_amount» ⌝ }
+{
+    let remaining = budget.0;
+    if remaining < read_amount {
+        return BudgetAnswer::Refused(Refusal::TooManyBytesRead);
+    }
+    BudgetAnswer::Left(Budget(remaining - read_amount))
+}
+
+fn nucleus_of(special: Special) -> Nucleus
+    ensures { λ r. ⌜ r ≡ specialNucleus special ⌝ }
+{
+    match special {
+        Special::None => Nucleus::None,
+        Special::Unit => Nucleus::Unit,
+        Special::False => Nucleus::Boolean(false),
+        Special::True => Nucleus::Boolean(true),
+        Special::Named => Nucleus::Named,
+        Special::DynamicMap => Nucleus::DynamicMap,
+        Special::DynamicEnd => Nucleus::DynamicEnd,
+    }
+}
+
+// Atoms of each kind: the one place where an atom is put together.
+fn header_atom(kind: Kind, arg: u64) -> Atom
+    ensures { λ r. ⌜ r ≡ atomOf kind arg N.None ⌝ }
+{
+    let nucleus = Nucleus::None;
+    Atom { kind, arg, nucleus }
+}
+
+fn integer_atom(kind: Kind, arg: u64, value: Integer) -> Atom
+    ensures { λ r. ⌜ r ≡ atomOf kind arg (N.Integer value) ⌝ }
+{
+    let nucleus = Nucleus::Integer(value);
+    Atom { kind, arg, nucleus }
+}
+
+fn float_atom(arg: u64, bytes: u64, bits: u64) -> Atom
+    requires { ⌜ bits < 256 ^ bytes ⌝ }
+    ensures { λ r. ⌜ r ≡ atomOf K.Float arg (N.Float (floatOf bytes bits) bits) ⌝ }
+{
+    let nucleus = Nucleus::Float(float::float_of(bytes, bits), bits);
+    let kind = Kind::Float;
+    Atom { kind, arg, nucleus }
+}
+
+fn bytes_atom(arg: u64, mark: Mark) -> Atom
+    ensures { λ r. ⌜ r ≡ atomOf K.Bytes arg (N.Bytes mark) ⌝ }
+{
+    let nucleus = Nucleus::Bytes(mark);
+    let kind = Kind::Bytes;
+    Atom { kind, arg, nucleus }
+}
+
+// A special, once its header is read.
+fn read_special(arg: u64, next: Place, budget: Budget) -> AtomAnswer
+    ensures { λ r. ⌜ r ≡ specialAtom arg next budget (specialFrom arg) ⌝ }
+{
+    match Special::try_from(arg) {
+        SpecialAnswer::Known(special) => {
+            let nucleus = nucleus_of(special);
+            let kind = Kind::Special;
+            return AtomAnswer::Read(next, budget, Atom { kind, arg, nucleus });
+        }
+        SpecialAnswer::Refused(refusal) => {
+            return AtomAnswer::Refused(next, budget, refusal);
+        }
+    }
+}
+
+// An integer, once its header is read.
+fn read_integer(
+    source: &[u8],
+    kind: Kind,
+    arg: u64,
+    next: Place,
+    budget: Budget,
+    way: Way,
+) -> AtomAnswer
+    requires { ⌜ (next .0 ≤ length (now source)) × (integerKind kind ≡ true) ⌝ }
+    ensures { λ r. ⌜ r ≡ integerAfter way (now (source .entry)) kind arg next budget ⌝ }
+{
+    let bytes = count_of(arg);
+    let BudgetAnswer::Left(rest) = update_budget(budget, in_memory_int_size(bytes)) else {
+        return AtomAnswer::Refused(next, budget, Refusal::TooManyBytesRead);
+    };
+    if integer::allowed(bytes) {
+        let at = next.0;
+        let count = bytes as usize;
+        if count <= source.len() - at {
+            let value = integer::integer_at(kind, source, at, bytes);
+            return AtomAnswer::Read(Place(at + count), rest, integer_atom(kind, arg, value));
+        }
+        if way.is_exact() {
+            return AtomAnswer::Refused(Place(source.len()), rest, Refusal::Eof);
+        }
+        let value = integer::filled_integer(kind, source, at, bytes);
+        return AtomAnswer::Read(Place(source.len()), rest, integer_atom(kind, arg, value));
+    }
+    AtomAnswer::Refused(next, rest, Refusal::UnsupportedByteCount(kind, bytes))
+}
+
+// A float, once its header is read. Its stored bits stand beside its value.
+fn read_float(source: &[u8], arg: u64, next: Place, budget: Budget, way: Way) -> AtomAnswer
+    requires { ⌜ next .0 ≤ length (now source) ⌝ }
+    ensures { λ r. ⌜ r ≡ floatAfter way (now (source .entry)) arg next budget ⌝ }
+{
+    let bytes = count_of(arg);
+    let BudgetAnswer::Left(rest) = update_budget(budget, in_memory_int_size(bytes)) else {
+        return AtomAnswer::Refused(next, budget, Refusal::TooManyBytesRead);
+    };
+    if float::allowed(bytes) {
+        let at = next.0;
+        let count = bytes as usize;
+        if count <= source.len() - at {
+            let bits = float::stored_bits(source, at, bytes);
+            return AtomAnswer::Read(Place(at + count), rest, float_atom(arg, bytes, bits));
+        }
+        if way.is_exact() {
+            return AtomAnswer::Refused(Place(source.len()), rest, Refusal::Eof);
+        }
+        let bits = float::filled_bits(source, at, bytes);
+        return AtomAnswer::Read(Place(source.len()), rest, float_atom(arg, bytes, bits));
+    }
+    AtomAnswer::Refused(
+        next,
+        rest,
+        Refusal::UnsupportedByteCount(Kind::Float, bytes),
+    )
+}
+
+// A string, once its header is read: lent as a part of the source, or copied into scratch.
+fn read_bytes(
+    source: &[u8],
+    arg: u64,
+    next: Place,
+    budget: Budget,
+    scratch: &mut [u8],
+    way: Way,
+) -> AtomAnswer
+    ensures { λ r. ⌜ r ≡ bytesAfter way (now (source .entry)) arg next budget (now (scratch .entry)) ⌝ }
+    ensures { λ r. ⌜ now (scratch .exit) ≡ scratchCharged way (now (source .entry)) (next .0) arg (now (scratch .entry)) (budgetAfter budget arg) ⌝ }
+{
+    let BudgetAnswer::Left(rest) = update_budget(budget, arg) else {
+        return AtomAnswer::Refused(next, budget, Refusal::TooManyBytesRead);
+    };
+    match reader::buffered_read_bytes(source, next, arg, scratch, way) {
+        BytesAnswer::Read(place, mark) => {
+            return AtomAnswer::Read(place, rest, bytes_atom(arg, mark));
+        }
+        BytesAnswer::Refused(place, refusal) => {
+            return AtomAnswer::Refused(place, rest, refusal);
+        }
+    }
+}
+
+// What follows a header, by its kind.
+fn read_body(
+    source: &[u8],
+    kind: Kind,
+    arg: u64,
+    next: Place,
+    budget: Budget,
+    scratch: &mut [u8],
+    way: Way,
+) -> AtomAnswer
+    requires { ⌜ next .0 ≤ length (now source) ⌝ }
+    ensures { λ r. ⌜ r ≡ atomAfter way (now (source .entry)) kind arg next budget (now (scratch .entry)) ⌝ }
+    ensures { λ r. ⌜ now (scratch .exit) ≡ scratchAfter way (now (source .entry)) kind arg next budget (now (scratch .entry)) ⌝ }
+{
+    match kind {
+        Kind::Sequence => return AtomAnswer::Read(next, budget, header_atom(kind, arg)),
+        Kind::Map => return AtomAnswer::Read(next, budget, header_atom(kind, arg)),
+        Kind::Symbol => return AtomAnswer::Read(next, budget, header_atom(kind, arg)),
+        Kind::Special => return read_special(arg, next, budget),
+        Kind::Int | Kind::UInt => return read_integer(source, kind, arg, next, budget, way),
+        Kind::Float => return read_float(source, arg, next, budget, way),
+        Kind::Bytes => return read_bytes(source, arg, next, budget, scratch, way),
+    }
+}
+
+// Reads an atom under a way. A string that the way copies goes into scratch.
+pub fn read_atom_by(
+    source: &[u8],
+    place: Place,
+    budget: Budget,
+    scratch: &mut [u8],
+    way: Way,
+) -> AtomAnswer
+    ensures { λ r. ⌜ r ≡ atomRead way (now (source .entry)) (place .0) budget (now (scratch .entry)) ⌝ }
+    ensures { λ r. ⌜ now (scratch .exit) ≡ atomScratch way (now (source .entry)) (place .0) budget (now (scratch .entry)) ⌝ }
+{
+    match header::read_atom_header(source, place, way) {
+        HeaderAnswer::Read(next, kind, arg) => {
+            return read_body(source, kind, arg, next, budget, scratch, way);
+        }
+        HeaderAnswer::Refused(end, refusal) => {
+            return AtomAnswer::Refused(end, budget, refusal);
+        }
+    }
+}
+
+// Reads an atom, strings lent, by the way of the entry that names none.
+pub fn read_atom(source: &[u8], place: Place, budget: Budget) -> AtomAnswer
+    ensures { λ r. ⌜ r ≡ atomRead unnamedWay (now (source .entry)) (place .0) budget [] ⌝ }
+{
+    let mut scratch = [0u8; 0];
+    read_atom_by(source, place, budget, &mut scratch, Way::unnamed())
+}

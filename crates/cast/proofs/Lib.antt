@@ -1,0 +1,9 @@
+pub mod Words
+pub mod Ranges
+pub mod Arms
+pub mod Zeros
+pub mod Equality
+pub mod Between
+pub mod Exact
+pub mod Halves
+pub mod Made
