@@ -1,0 +1,23 @@
+// A request of oracle/FORMAT.md, answered from the proved functions as the oracle answers it: each code goes to the crate
+// that has its entry. A code that none has is not answered.
+use wire::Cursor;
+use wire::Reply;
+
+// Answers a request into the first bytes of `out`. `bytes` holds its source or what a writer wrote, `scratch` what is
+// copied out of it. An answer is good only if the request was read to its end and everything had room.
+pub fn answer(request: &[u8], bytes: &mut [u8], scratch: &mut [u8], out: &mut [u8]) -> Reply {
+    let code = wire::read_word(request, Cursor { at: 0, good: true });
+    let cursor = code.cursor;
+    let number = code.value;
+    match number {
+        0x1 | 0x2 | 0x10..=0x13 => {
+            return answer_headers::answer(number, request, cursor, bytes, out);
+        }
+        0x23..=0x25 => {
+            return answer_strings::answer(number, request, cursor, bytes, scratch, out);
+        }
+        _ => {
+            return wire::none();
+        }
+    }
+}

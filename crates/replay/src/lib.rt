@@ -1,0 +1,144 @@
+// Replays a file of vectors, oracle/vectors: each request is answered from the proved functions and the answer compared
+// with the oracle's. Proved is that every text is judged and judging ends, and that each line is counted once.
+ghost use mathlib.Core.Path.{_≡_};
+ghost use Prim.Native.Nat.{_+_, _<_, _^_, _≤_};
+ghost use lib.ListN.{length};
+ghost use Rattle.replay.specs.Counted.{Counted};
+use libc::STDIN_FILENO;
+use libc::STDOUT_FILENO;
+use wire::Cursor;
+
+// What became of a line. One that isn't a vector, or whose request isn't answered, is left out.
+pub enum Verdict {
+    Equal,
+    Differ,
+    LeftOut,
+}
+
+// How many lines there were, how many of them had each verdict, and where the first one that differs starts.
+pub struct Tally {
+    pub lines: u64,
+    pub equal: u64,
+    pub differ: u64,
+    pub omitted: u64,
+    pub first: usize,
+}
+
+// Answers the request of a line and compares.
+fn judge_line(line: &[u8], bytes: &mut [u8], scratch: &mut [u8], out: &mut [u8]) -> Verdict {
+    let vector = wire::split(line);
+    if !vector.good {
+        return Verdict::LeftOut;
+    }
+    let request = vector.request;
+    let expected = vector.answer;
+    let reply = answers::answer(&line[0..request], bytes, scratch, out);
+    if !reply.good {
+        return Verdict::LeftOut;
+    }
+    if check::same(wire::first(out, reply.at), &line[expected..]) {
+        return Verdict::Equal;
+    }
+    Verdict::Differ
+}
+
+// Where the first line that differs starts, if this one does.
+fn first_of(tally: Tally, start: usize) -> usize {
+    if tally.differ == 0 {
+        return start;
+    }
+    tally.first
+}
+
+// The tally with one line more, which starts there.
+fn counted(tally: Tally, verdict: Verdict, start: usize) -> Tally
+    requires { ⌜ Counted tally × (tally .lines + 1 < 2 ^ 64) ⌝ }
+    ensures { λ r. ⌜ Counted r × (r .lines ≡ tally .lines + 1) ⌝ }
+{
+    let mut more = tally;
+    more.lines = tally.lines + 1;
+    match verdict {
+        Verdict::Equal => {
+            more.equal = tally.equal + 1;
+            return more;
+        }
+        Verdict::Differ => {
+            more.first = first_of(tally, start);
+            more.differ = tally.differ + 1;
+            return more;
+        }
+        Verdict::LeftOut => {
+            more.omitted = tally.omitted + 1;
+            return more;
+        }
+    }
+}
+
+// Judges every line of a text.
+pub fn judge(text: &[u8], bytes: &mut [u8], scratch: &mut [u8], out: &mut [u8]) -> Tally
+    ensures { λ r. ⌜ Counted r ⌝ }
+{
+    let mut tally = Tally {
+        lines: 0,
+        equal: 0,
+        differ: 0,
+        omitted: 0,
+        first: 0,
+    };
+    let mut at = 0;
+    while at < text.len() {
+        let verdict = judge_line(wire::line_at(text, at), bytes, scratch, out);
+        tally = counted(tally, verdict, at);
+        at = wire::next_line(text, at);
+    }
+    tally
+}
+
+// Writes the counts, as `headers: 9 lines, 9 equal, 0 differ, 0 left out`.
+fn write_counts(name: &[u8], tally: Tally) {
+    let mut space = [0u8; 256];
+    let out: &mut [u8] = &mut space;
+    let mut put = wire::begin(b"", Cursor { at: 0, good: true });
+    put = wire::put_text(out, put, name);
+    put = wire::put_text(out, put, b": ");
+    put = wire::put_decimal(out, put, tally.lines);
+    put = wire::put_text(out, put, b" lines, ");
+    put = wire::put_decimal(out, put, tally.equal);
+    put = wire::put_text(out, put, b" equal, ");
+    put = wire::put_decimal(out, put, tally.differ);
+    put = wire::put_text(out, put, b" differ, ");
+    put = wire::put_decimal(out, put, tally.omitted);
+    put = wire::put_text(out, put, b" left out\n");
+    io::write_all(STDOUT_FILENO, wire::first(out, put.at));
+}
+
+// Writes the line that starts there, and below it what was answered instead.
+fn write_difference(line: &[u8], answer: &[u8]) {
+    io::write_all(STDOUT_FILENO, line);
+    io::write_all(STDOUT_FILENO, b"\nanswered: ");
+    io::write_all(STDOUT_FILENO, answer);
+    io::write_all(STDOUT_FILENO, b"\n");
+}
+
+// Judges a text and writes its counts, and the first line that differs with what was answered.
+fn report(name: &[u8], text: &[u8], bytes: &mut [u8], scratch: &mut [u8], out: &mut [u8]) {
+    let tally = judge(text, bytes, scratch, out);
+    write_counts(name, tally);
+    if 0 < tally.differ {
+        let line = wire::line_at(text, tally.first);
+        let vector = wire::split(line);
+        let request = vector.request;
+        let reply = answers::answer(&line[0..request], bytes, scratch, out);
+        write_difference(line, wire::first(out, reply.at));
+    }
+}
+
+// Replays the vectors on standard input, at most 65,536 bytes, and writes the counts under that name.
+pub fn run(name: &[u8]) {
+    let mut text = io::large_buffer();
+    let count = io::read_full(STDIN_FILENO, &mut text);
+    let mut bytes = [0u8; 1024];
+    let mut scratch = [0u8; 1024];
+    let mut out = [0u8; 2048];
+    report(name, &text[..count], &mut bytes, &mut scratch, &mut out);
+}

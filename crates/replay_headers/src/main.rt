@@ -1,0 +1,4 @@
+// Replays oracle/vectors/headers.txt.
+fn main() {
+    replay::run(b"headers");
+}

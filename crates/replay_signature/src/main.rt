@@ -1,0 +1,4 @@
+// Replays oracle/vectors/signature.txt.
+fn main() {
+    replay::run(b"signature");
+}

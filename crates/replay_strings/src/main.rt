@@ -1,0 +1,4 @@
+// Replays oracle/vectors/strings.txt.
+fn main() {
+    replay::run(b"strings");
+}
