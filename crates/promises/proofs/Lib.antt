@@ -11,3 +11,4 @@ pub mod Writers
 pub mod Float
 pub mod Atom
 pub mod Demand2
+pub mod Starred
