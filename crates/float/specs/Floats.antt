@@ -20,7 +20,7 @@ use Rattle.types.specs.declared.FloatAnswer.{FloatAnswer}
 use Rattle.types.specs.declared.FloatAnswer.the-variants as FA
 use Rattle.little.specs.Le.{numberAt}
 use Rattle.little.specs.Counts.{listed}
-use Rattle.binary.specs.Formats.{half, single}
+use Rattle.binary.specs.Formats.{Layout, half, single, double}
 use Rattle.binary.specs.Conversions.{widened}
 
 -- "Float: counts 2, 4, 8."
@@ -29,6 +29,10 @@ floatCounts = 2 ∷ 4 ∷ 8 ∷ []
 
 abbrev pub allowedFloat : ℕ → Bool
 allowedFloat count = listed count floatCounts
+
+-- the format of a count: binary16, binary32 or binary64
+abbrev pub layoutAt : ℕ → Layout
+layoutAt count = pick (eqb count 2) half (pick (eqb count 4) single double)
 
 -- "Two bytes read as an F32", four too, and eight as an F64: the float of that many bytes that hold the bits, an allowed count
 unfoldable pub floatOf : ℕ → ℕ → Float

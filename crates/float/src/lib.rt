@@ -7,10 +7,23 @@ ghost use lib.Ieee.{binary32, binary64, toBits};
 ghost use lib.ListN.{length};
 ghost use Rattle.lent.specs.Lent.{writtenAnswer, writtenContent};
 ghost use Rattle.little.specs.Le.{numberAt};
+ghost use Rattle.binary.specs.Formats.{single};
+ghost use Rattle.binary.specs.Conversions.{narrowedMeaning};
+ghost use Rattle.binary.specs.Floats.{floatMeaning};
 ghost use Rattle.float.specs.Floats.{allowedFloat, floatOf, floatFrom, floatRead};
 ghost use Rattle.float.specs.Bytes.{f32Bytes, f64Bytes, valueBytes};
+ghost use Rattle.float.specs.Values.{
+  floatValue,
+  atMost,
+  isZero,
+  ifEqual,
+  asF32,
+  equalNumbers,
+  equalFloats,
+};
 use binary::Narrowed16;
 use binary::Narrowed32;
+use types::AsF32;
 use types::Float;
 use types::FloatAnswer;
 use types::Kind;
@@ -146,4 +159,91 @@ pub fn write_to(out: &mut [u8], value: Float) -> Written
         Float::F64(float) => return write_f64(out, float),
         Float::F32(float) => return write_f32(out, float),
     }
+}
+
+// Whether a binary32 value is at most 2^-23 away from zero.
+fn is_small_f32(value: f32) -> bool
+    ensures { λ r. ⌜ r ≡ atMost 23 (floatMeaning value) ⌝ }
+{
+    if value <= f32::from_bits(0x3400_0000) {
+        f32::from_bits(0xB400_0000) <= value
+    } else {
+        false
+    }
+}
+
+// Whether a binary64 value is at most 2^-52 away from zero.
+fn is_small_f64(value: f64) -> bool
+    ensures { λ r. ⌜ r ≡ atMost 52 (floatMeaning value) ⌝ }
+{
+    if value <= f64::from_bits(0x3CB0_0000_0000_0000) {
+        f64::from_bits(0xBCB0_0000_0000_0000) <= value
+    } else {
+        false
+    }
+}
+
+// Returns true if the value contained is zero.
+pub fn is_zero(x: Float) -> bool
+    ensures { λ r. ⌜ r ≡ isZero x ⌝ }
+{
+    match x {
+        Float::F64(value) => return is_small_f64(value),
+        Float::F32(value) => return is_small_f32(value),
+    }
+}
+
+// The equal binary32 value, if there is one.
+fn narrow(value: f64) -> AsF32
+    ensures { λ r. ⌜ r ≡ ifEqual value (narrowedMeaning single (floatMeaning value)) ⌝ }
+{
+    match binary::f64_to_f32_bits(binary::f64_pattern(value)) {
+        Narrowed32::Pattern(bits) => return AsF32::Value(binary::f32_of_bits(bits)),
+        Narrowed32::None => return AsF32::Refused(Refusal::ImpreciseCastWouldLoseData),
+    }
+}
+
+// Returns this number as an f32, if it can be done without losing precision.
+pub fn as_f32(x: Float) -> AsF32
+    ensures { λ r. ⌜ r ≡ asF32 x ⌝ }
+{
+    match x {
+        Float::F64(value) => return narrow(value),
+        Float::F32(value) => return AsF32::Value(value),
+    }
+}
+
+// The same value in the wider format. A NaN, which alone differs from itself, stays the NaN.
+fn widen(value: f32) -> f64
+    ensures { λ r. ⌜ r ≡ value ⌝ }
+{
+    if value == value {
+        value as f64
+    } else {
+        0.0 / 0.0
+    }
+}
+
+// Returns this number as an f64. Of a NaN's bits, `binary::f32_to_f64_bits` is the twin.
+pub fn as_f64(x: Float) -> f64
+    ensures { λ r. ⌜ r ≡ floatValue x ⌝ }
+{
+    match x {
+        Float::F64(value) => return value,
+        Float::F32(value) => return widen(value),
+    }
+}
+
+// Equality of two binary64 values.
+fn same_number(left: f64, right: f64) -> bool
+    ensures { λ r. ⌜ r ≡ equalNumbers (floatMeaning left) (floatMeaning right) ⌝ }
+{
+    left == right
+}
+
+// Equality of numbers, across widths by widening.
+pub fn equal(a: Float, b: Float) -> bool
+    ensures { λ r. ⌜ r ≡ equalFloats a b ⌝ }
+{
+    same_number(as_f64(a), as_f64(b))
 }

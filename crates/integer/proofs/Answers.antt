@@ -1,5 +1,5 @@
 -- The answers of the integer reader at each of its ends, over the kind and the count.
-use mathlib.Core.Path.{_≡_, refl, _∙_, sym, ap}
+use mathlib.Core.Path.{_≡_}
 use mathlib.Core.Bool.{true, false}
 use mathlib.Core.List.{List}
 use Prim.Native.Nat.{ℕ, _+_, _≤_, _<_}
@@ -8,7 +8,6 @@ use Rattle.types.specs.Ways.{exact}
 use Rattle.types.specs.declared.Way.{Way}
 use Rattle.types.specs.declared.Kind.{Kind}
 use Rattle.types.specs.declared.Kind.the-variants as K
-use Rattle.types.specs.declared.Integer.{Integer}
 use Rattle.types.specs.declared.Refusal.the-variants as R
 use Rattle.types.specs.declared.IntegerAnswer.{IntegerAnswer}
 use Rattle.types.specs.declared.IntegerAnswer.the-variants as IA

@@ -1,2 +1,4 @@
 pub mod Variants
 pub mod Answers
+pub mod Counts
+pub mod RoundTrip

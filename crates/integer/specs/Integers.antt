@@ -1,7 +1,7 @@
 -- Integers read from bytes. Document 01, "Bytes of an atom": "Int and UInt: byte count is argument + 1; counts 1, 2, 3, 4, 6,
 -- 8, 16; little endian, Int in two's complement", and "Refusals by number".
 use Prim.Native.Nat.{ℕ, _+_, _*_, _/_, _%_, _^_}
-use mathlib.Core.Bool.{Bool, true, false}
+use mathlib.Core.Bool.{Bool, true}
 use mathlib.Core.List.{List}
 use lib.Dec.{eqb, leb}
 use lib.IntN.{ℤ, pos}

@@ -127,8 +127,8 @@ fn is_integer(kind: Kind) -> bool
     }
 }
 
-// The integer of a kind, whose room the caller judged.
-fn integer_at(kind: Kind, source: &[u8], at: usize, count: u64) -> Integer
+// The integer of a kind, whose room the caller judged: a helper of readers.
+pub fn integer_at(kind: Kind, source: &[u8], at: usize, count: u64) -> Integer
     requires { ⌜ (allowedCount count ≡ true) × (at + count ≤ length (now source)) ⌝ }
     ensures { λ r. ⌜ r ≡ integerOf kind count (numberAt count (now (source .entry)) at) ⌝ }
 {
@@ -138,8 +138,8 @@ fn integer_at(kind: Kind, source: &[u8], at: usize, count: u64) -> Integer
     }
 }
 
-// The integer of a kind, bytes past the end zero.
-fn filled_integer(kind: Kind, source: &[u8], at: usize, count: u64) -> Integer
+// The integer of a kind, bytes past the end zero: a helper of readers.
+pub fn filled_integer(kind: Kind, source: &[u8], at: usize, count: u64) -> Integer
     requires { ⌜ (allowedCount count ≡ true) × (at ≤ length (now source)) ⌝ }
     ensures { λ r. ⌜ r ≡ integerOf kind count (numberAt count (now (source .entry)) at) ⌝ }
 {

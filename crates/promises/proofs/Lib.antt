@@ -4,3 +4,11 @@ pub mod Lent
 pub mod Header
 pub mod Reader
 pub mod Little
+pub mod Binary
+pub mod Cast
+pub mod Integer
+pub mod Writers
+pub mod Float
+pub mod Atom
+pub mod Demand2
+pub mod Starred

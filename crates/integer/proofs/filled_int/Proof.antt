@@ -1,6 +1,5 @@
 -- `integer::filled_int` meets its contract: each arm is the one law of a signed arm, at its count.
 use denote.Ref.{now}
-use native.Mathlib.Omega.{arith}
 use mir.Syntax.{w8, w16, w32, w64}
 use Rattle.types.specs.declared.Integer.the-variants as I
 use Rattle.integer.proofs.Variants.{signed-arm, signed-wide-arm, sixteen, int-1, int-2, int-3, int-4, int-6, int-8}

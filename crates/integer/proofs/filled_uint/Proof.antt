@@ -1,6 +1,5 @@
 -- `integer::filled_uint` meets its contract: each arm is the one law of an unsigned arm, at its count.
 use denote.Ref.{now}
-use native.Mathlib.Omega.{arith}
 use Rattle.types.specs.declared.Integer.the-variants as I
 use Rattle.integer.proofs.Variants.{unsigned-arm, unsigned-wide-arm, sixteen, uint-1, uint-2, uint-3, uint-4, uint-6, uint-8}
 use borrow.Author.Needs.{needs}

@@ -1,0 +1,90 @@
+-- What was written reads back: the header decides, and what follows it is the body's own round trip.
+use mathlib.Core.Path.{_≡_, refl, _∙_, sym, ap}
+use mathlib.Core.Bool.{Bool, true, false}
+use mathlib.Core.List.{List, [], _∷_, _++_, append-assoc}
+use Prim.Native.Nat.{ℕ, _+_, _-_, _≤_, _<_, _^_}
+use native.Mathlib.Omega.{arith}
+use lib.ListN.{length, length-append}
+use borrow.Author.Tests.{le-ltb, lt-ltb}
+use Rattle.types.specs.Choice.{pick}
+use Rattle.types.specs.Counters.{placeIn}
+use Rattle.types.specs.Kinds.{specialCode, specialFrom}
+use Rattle.types.specs.declared.Way.{Way}
+use Rattle.types.specs.declared.Kind.{Kind}
+use Rattle.types.specs.declared.Kind.the-variants as K
+use Rattle.types.specs.declared.Special.{Special}
+use Rattle.types.specs.declared.Special.the-variants as S
+use Rattle.types.specs.declared.Place.{Place}
+use Rattle.types.specs.declared.Budget.{Budget}
+use Rattle.types.specs.declared.Nucleus.the-variants as N
+use Rattle.types.specs.declared.SpecialAnswer.the-variants as SA
+use Rattle.types.specs.declared.HeaderAnswer.{HeaderAnswer}
+use Rattle.types.specs.declared.HeaderAnswer.the-variants as H
+use Rattle.types.specs.declared.BytesAnswer.{BytesAnswer}
+use Rattle.types.specs.declared.BudgetAnswer.the-variants as BA
+use Rattle.types.specs.declared.AtomAnswer.{AtomAnswer}
+use Rattle.types.specs.declared.AtomAnswer.the-variants as A
+use Rattle.header.specs.Header.{headerBytes, headerFrom, headerRead}
+use Rattle.header.proofs.RoundTrip.{header-back}
+use Rattle.reader.specs.Strings.{stringAnswer, stringMark, scratchNeeded}
+use Rattle.reader.proofs.Delivered.{string-back}
+use Rattle.atom.specs.Charges.{budgetAfter}
+use Rattle.atom.specs.Atoms.{atomRead, atomFrom, atomAfter, atomOf, specialAtom, specialNucleus, bytesAtom, bytesAfter}
+use Rattle.atom.proofs.Answers.{bytes-left}
+
+-- a place within the source is itself
+within : (n at : ℕ) → at ≤ n → placeIn n at ≡ at
+within n at h = simp (le-ltb n at h)
+
+-- a charge within the budget leaves the budget less the charge
+pub paid : (b : Budget) (c : ℕ) → c ≤ b .0 → budgetAfter b c ≡ BA.Left (record { 0 = b .0 - c })
+paid b c h = simp (le-ltb (b .0) c h)
+
+-- THE HEADER DECIDES: what follows a written header is read by its kind, just past it
+pub atom-back : (way : Way) (kind : Kind) (arg : ℕ) (before rest : List ℕ) (budget : Budget) (scratch : List ℕ) → arg < 2 ^ 64 → atomRead way (before ++ (headerBytes kind arg ++ rest)) (length before) budget scratch ≡ atomAfter way (before ++ (headerBytes kind arg ++ rest)) kind arg (record { 0 = length before + length (headerBytes kind arg) }) budget scratch
+unfolding atomRead
+atom-back way kind arg before rest budget scratch l =
+    let s : List ℕ = before ++ (headerBytes kind arg ++ rest) in
+    let whole : length s ≡ length before + (length (headerBytes kind arg) + length rest) = simp length-append in
+    let w : placeIn (length s) (length before) ≡ length before = within (length s) (length before) (omega arith) in
+    ap (λ (p : ℕ). atomFrom way s budget scratch (headerFrom way s p)) w
+    ∙ ap (atomFrom way s budget scratch) (header-back way kind arg before rest l)
+
+-- each special reads back as itself, for nothing
+special-known : (special : Special) → specialFrom (specialCode special) ≡ SA.Known special
+special-known S.None = refl
+special-known S.Unit = refl
+special-known S.False = refl
+special-known S.True = refl
+special-known S.Named = refl
+special-known S.DynamicMap = refl
+special-known S.DynamicEnd = refl
+
+small : (special : Special) → specialCode special < 2 ^ 64
+small S.None = omega arith
+small S.Unit = omega arith
+small S.False = omega arith
+small S.True = omega arith
+small S.Named = omega arith
+small S.DynamicMap = omega arith
+small S.DynamicEnd = omega arith
+
+pub special-back : (way : Way) (special : Special) (before after : List ℕ) (budget : Budget) (scratch : List ℕ) → atomRead way (before ++ (headerBytes K.Special (specialCode special) ++ after)) (length before) budget scratch ≡ A.Read (record { 0 = length before + length (headerBytes K.Special (specialCode special)) }) budget (atomOf K.Special (specialCode special) (specialNucleus special))
+special-back way special before after budget scratch =
+    atom-back way K.Special (specialCode special) before after budget scratch (small special)
+    ∙ ap (specialAtom (specialCode special) (record { 0 = length before + length (headerBytes K.Special (specialCode special)) }) budget) (special-known special)
+
+-- a string reads back under every way, from a budget of at least its length, lent or copied
+pub bytes-back : (way : Way) (before bytes after : List ℕ) (budget : Budget) (scratch : List ℕ) → length bytes < 2 ^ 64 → length bytes ≤ budget .0 → scratchNeeded way (length bytes) ≤ length scratch → atomRead way (before ++ (headerBytes K.Bytes (length bytes) ++ (bytes ++ after))) (length before) budget scratch ≡ A.Read (record { 0 = length before + length (headerBytes K.Bytes (length bytes)) + length bytes }) (record { 0 = budget .0 - length bytes }) (atomOf K.Bytes (length bytes) (N.Bytes (stringMark way (length before + length (headerBytes K.Bytes (length bytes))) (length bytes))))
+bytes-back way before bytes after budget scratch l b r =
+    let hd : List ℕ = headerBytes K.Bytes (length bytes) in
+    let s : List ℕ = before ++ (hd ++ (bytes ++ after)) in
+    let split : s ≡ (before ++ hd) ++ (bytes ++ after) = sym (append-assoc before hd (bytes ++ after)) in
+    let n : length (before ++ hd) ≡ length before + length hd = length-append before hd in
+    let next : Place = record { 0 = length before + length hd } in
+    let left : Budget = record { 0 = budget .0 - length bytes } in
+    let back = string-back s (before ++ hd) bytes after split way scratch r in
+    atom-back way K.Bytes (length bytes) before (bytes ++ after) budget scratch l
+    ∙ sym (bytes-left way s (length bytes) next budget left scratch (paid budget (length bytes) b))
+    ∙ ap (bytesAtom (length bytes) left) (ap (λ (p : ℕ). stringAnswer way s p (length bytes) scratch) (sym n) ∙ back .0)
+    ∙ ap (λ (p : ℕ). A.Read (record { 0 = p + length bytes }) left (atomOf K.Bytes (length bytes) (N.Bytes (stringMark way p (length bytes))))) n

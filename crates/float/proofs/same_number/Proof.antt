@@ -1,0 +1,13 @@
+-- `float::same_number` meets its contract: the logic compares the values as their meanings are compared.
+use lib.Ieee
+use borrow.Author.Needs.{needs}
+use Rattle.float.proofs.Units.{fine}
+use Rattle.float.proofs.Compared.{equal-is}
+use Rattle.float.proofs.same_number.Statement.{statement}
+use Rattle.float.proofs.same_number.Tie as tie
+
+returns : tie.Need-returns
+returns c = equal-is (c .args .left) (c .args .right) (fine Ieee.binary64 (c .args .left) (search needs)) (fine Ieee.binary64 (c .args .right) (search needs))
+
+pub same-number-spec : {M : Type 1} → statement M
+same-number-spec = tie.close (tie.spec returns)

@@ -1,0 +1,79 @@
+-- The bytes of a number, where they stand, read back under every way as the integer that has its value, just past them,
+-- whatever follows. One law over the count.
+use mathlib.Core.Path.{_≡_, refl, _∙_, sym, ap}
+use mathlib.Core.Bool.{true}
+use mathlib.Core.List.{List, _++_}
+use Prim.Native.Nat.{ℕ, _+_, _*_, _/_, _%_, _^_, _<_, _≤_}
+use native.Mathlib.Omega.{arith}
+use native.Mathlib.Nat.{mod-eq-of-lt, mod-add-div}
+use lib.IntN.{ℤ, pos}
+use lib.ListN.{length, length-append}
+use Rattle.types.specs.declared.Way.{Way}
+use Rattle.types.specs.declared.Kind.{Kind}
+use Rattle.types.specs.declared.IntegerAnswer.the-variants as IA
+use Rattle.little.specs.Le.{toLE, numberAt}
+use Rattle.little.specs.Twos.{twos, twosBits}
+use Rattle.little.specs.Counts.{counts, holdsU, holdsS}
+use Rattle.little.proofs.Width.{to-length}
+use Rattle.little.proofs.At.{number-reads}
+use Rattle.little.proofs.Two.{twos-bits, bits-lt}
+use Rattle.integer.specs.Integers.{allowedCount, wideOf, wideBits, intOf, uintOf, integerOf, integerValue, integerBody}
+use Rattle.integer.proofs.Variants.{int-1, int-2, int-3, int-4, int-6, int-8, int-16, uint-1, uint-2, uint-3, uint-4, uint-6, uint-8, uint-16}
+use Rattle.integer.proofs.Counts.{each}
+use Rattle.integer.proofs.Answers.{body-whole}
+
+-- two words hold the number
+pub wide-back : (v : ℕ) → wideBits (wideOf v) ≡ v
+wide-back v = mod-add-div v (2 ^ 64)
+
+-- the value of what is read: two's complement, and the number itself
+pub int-value : (n : ℕ) → allowedCount n ≡ true → (v : ℕ) → integerValue (intOf n v) ≡ twos n v
+int-value n h v =
+    each
+    (λ m. integerValue (intOf m v) ≡ twos m v)
+    counts (
+      ap integerValue (int-1 v),
+      (
+        ap integerValue (int-2 v),
+        (
+          ap integerValue (int-3 v),
+          (
+            ap integerValue (int-4 v),
+            (ap integerValue (int-6 v), (ap integerValue (int-8 v), (ap integerValue (int-16 v) ∙ ap (twos 16) (wide-back v), tt))),
+          ),
+        ),
+      ),
+    )
+    n
+    h
+
+pub uint-value : (n : ℕ) → allowedCount n ≡ true → (v : ℕ) → integerValue (uintOf n v) ≡ pos v
+uint-value n h v =
+    each
+    (λ m. integerValue (uintOf m v) ≡ pos v)
+    counts (
+      ap integerValue (uint-1 v),
+      (
+        ap integerValue (uint-2 v),
+        (
+          ap integerValue (uint-3 v),
+          (
+            ap integerValue (uint-4 v),
+            (ap integerValue (uint-6 v), (ap integerValue (uint-8 v), (ap integerValue (uint-16 v) ∙ ap pos (wide-back v), tt))),
+          ),
+        ),
+      ),
+    )
+    n
+    h
+
+-- a held value comes back
+pub int-value-back : (n : ℕ) (z : ℤ) → allowedCount n ≡ true → holdsS n z ≡ true → integerValue (intOf n (twosBits n z)) ≡ z
+int-value-back n z h held = int-value n h (twosBits n z) ∙ twos-bits n z held
+
+-- the bytes of a number that they hold
+pub body-back : (way : Way) (kind : Kind) (n bits : ℕ) (before after s : List ℕ) → s ≡ before ++ (toLE n bits ++ after) → bits < 256 ^ n → integerBody way s (length before) kind n ≡ IA.Read (record { 0 = length before + n }) (integerOf kind n bits)
+body-back way kind n bits before after s e h =
+    let long : length s ≡ length before + (n + length after) = ap length e ∙ length-append before (toLE n bits ++ after) ∙ ap (λ (k : ℕ). length before + k) (length-append (toLE n bits) after ∙ ap (λ (k : ℕ). k + length after) (to-length n bits)) in
+    let number : numberAt n s (length before) ≡ bits = number-reads n bits s (length before) before after e refl ∙ mod-eq-of-lt h in
+    body-whole way s (length before) kind n (omega arith) ∙ ap (λ (v : ℕ). IA.Read (record { 0 = length before + n }) (integerOf kind n v)) number

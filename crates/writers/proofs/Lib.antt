@@ -1,0 +1,4 @@
+pub mod Levels
+pub mod Wrote
+pub mod Signed
+pub mod Words
