@@ -1,5 +1,6 @@
-// The requests that read and write a float, answered from the proved functions: 22, 54, 76 and 77 of oracle/FORMAT.md.
-// Test machinery: proved is that every request is taken and every answer ends.
+// The requests that read, write, cast and compare floats, answered from the proved functions: 22, 50 to 52, 54, 55, 76 and
+// 77 of oracle/FORMAT.md. Test machinery: proved is that every request is taken and every answer ends.
+use types::AsF32;
 use types::FloatAnswer;
 use types::Written;
 use wire::Cursor;
@@ -62,11 +63,72 @@ fn write_number(
     wire::put_written(out, reply, written, bytes)
 }
 
+fn is_zero(text: &[u8], cursor: Cursor, out: &mut [u8]) -> Reply {
+    let field = wire_numbers::read_float(text, cursor);
+    let reply = wire::begin(text, field.cursor);
+    wire::put_truth(
+        out,
+        reply,
+        float::is_zero(wire_numbers::float_of(field.width, field.bits)),
+    )
+}
+
+// Answers the cast to an f32. A NaN that is taken keeps its bits.
+fn as_f32(text: &[u8], cursor: Cursor, out: &mut [u8]) -> Reply {
+    let field = wire_numbers::read_float(text, cursor);
+    let reply = wire::begin(text, field.cursor);
+    match float::as_f32(wire_numbers::float_of(field.width, field.bits)) {
+        AsF32::Value(value) => {
+            let taken = wire::put_word(out, reply, 0);
+            if value == value {
+                return wire::put_word(out, taken, binary::f32_pattern(value) as u64);
+            }
+            return wire::put_word(out, taken, field.bits);
+        }
+        AsF32::Refused(refusal) => {
+            return wire::refused(out, reply, refusal);
+        }
+    }
+}
+
+// The bits of a float of a width, widened to 64.
+fn widened(width: u64, bits: u64) -> u64 {
+    if width == 4 {
+        return binary::f32_to_f64_bits((bits % 0x1_0000_0000) as u32);
+    }
+    bits
+}
+
+// Answers the cast to an f64. A NaN's bits are widened.
+fn as_f64(text: &[u8], cursor: Cursor, out: &mut [u8]) -> Reply {
+    let field = wire_numbers::read_float(text, cursor);
+    let reply = wire::begin(text, field.cursor);
+    let value = float::as_f64(wire_numbers::float_of(field.width, field.bits));
+    let taken = wire::put_word(out, reply, 0);
+    if value == value {
+        return wire::put_word(out, taken, binary::f64_pattern(value));
+    }
+    wire::put_word(out, taken, widened(field.width, field.bits))
+}
+
+fn equal(text: &[u8], cursor: Cursor, out: &mut [u8]) -> Reply {
+    let first = wire_numbers::read_float(text, cursor);
+    let second = wire_numbers::read_float(text, first.cursor);
+    let reply = wire::begin(text, second.cursor);
+    let a = wire_numbers::float_of(first.width, first.bits);
+    let b = wire_numbers::float_of(second.width, second.bits);
+    wire::put_truth(out, reply, float::equal(a, b))
+}
+
 // Answers a request of this crate's codes, whose code was read. `bytes` holds its source, or what a writer wrote.
 pub fn answer(code: u64, text: &[u8], cursor: Cursor, bytes: &mut [u8], out: &mut [u8]) -> Reply {
     match code {
         0x22 => read_from(text, cursor, bytes, out),
+        0x50 => is_zero(text, cursor, out),
+        0x51 => as_f32(text, cursor, out),
+        0x52 => as_f64(text, cursor, out),
         0x54 => write_to(text, cursor, bytes, out),
+        0x55 => equal(text, cursor, out),
         0x76 => write_number(text, cursor, 4, bytes, out),
         0x77 => write_number(text, cursor, 8, bytes, out),
         _ => wire::none(),

@@ -19,7 +19,7 @@ pub fn answer(request: &[u8], bytes: &mut [u8], scratch: &mut [u8], out: &mut [u
         0x21 => {
             return answer_integers::answer(number, request, cursor, bytes, out);
         }
-        0x22 | 0x54 | 0x76 | 0x77 => {
+        0x22 | 0x50..=0x52 | 0x54 | 0x55 | 0x76 | 0x77 => {
             return answer_floats::answer(number, request, cursor, bytes, out);
         }
         0x23..=0x25 => {
@@ -27,6 +27,9 @@ pub fn answer(request: &[u8], bytes: &mut [u8], scratch: &mut [u8], out: &mut [u
         }
         0x30..=0x3D | 0x3F | 0x40..=0x49 => {
             return answer_casts::answer(number, request, cursor, out);
+        }
+        0x3E | 0x60..=0x6D | 0x70..=0x75 => {
+            return answer_writers::answer(number, request, cursor, bytes, scratch, out);
         }
         _ => {
             return wire::none();
