@@ -1,3 +1,4 @@
 pub mod Answers
 pub mod Integral
 pub mod Back
+pub mod Forward
