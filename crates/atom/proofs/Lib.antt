@@ -2,3 +2,4 @@ pub mod Answers
 pub mod Integral
 pub mod Back
 pub mod Forward
+pub mod Agree
