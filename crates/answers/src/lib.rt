@@ -13,8 +13,20 @@ pub fn answer(request: &[u8], bytes: &mut [u8], scratch: &mut [u8], out: &mut [u
         0x1 | 0x2 | 0x10..=0x13 => {
             return answer_headers::answer(number, request, cursor, bytes, out);
         }
+        0x20 | 0x27 | 0x28 => {
+            return answer_atoms::answer(number, request, cursor, bytes, scratch, out);
+        }
+        0x21 => {
+            return answer_integers::answer(number, request, cursor, bytes, out);
+        }
+        0x22 | 0x54 | 0x76 | 0x77 => {
+            return answer_floats::answer(number, request, cursor, bytes, out);
+        }
         0x23..=0x25 => {
             return answer_strings::answer(number, request, cursor, bytes, scratch, out);
+        }
+        0x30..=0x3D | 0x3F | 0x40..=0x49 => {
+            return answer_casts::answer(number, request, cursor, out);
         }
         _ => {
             return wire::none();

@@ -113,6 +113,12 @@ pub fn taken_at(out: &mut [u8], reply: Reply, place: Place) -> Reply {
     put_place(out, taken, place)
 }
 
+// Puts an answer that is a truth.
+pub fn put_truth(out: &mut [u8], reply: Reply, truth: bool) -> Reply {
+    let taken = put_word(out, reply, 0);
+    put_word(out, taken, truth as u64)
+}
+
 // Puts a string as it was delivered: the bytes in the scratch, or its start and length in the source.
 pub fn put_string(out: &mut [u8], reply: Reply, mark: Mark, scratch: &[u8]) -> Reply {
     if mark.lent {
@@ -125,7 +131,7 @@ pub fn put_string(out: &mut [u8], reply: Reply, mark: Mark, scratch: &[u8]) -> R
 }
 
 // Puts the data of a refusal.
-fn put_data(out: &mut [u8], reply: Reply, refusal: Refusal) -> Reply {
+pub fn put_data(out: &mut [u8], reply: Reply, refusal: Refusal) -> Reply {
     match refusal {
         Refusal::InvalidKind(code) => {
             return put_word(out, reply, code as u64);

@@ -1,0 +1,29 @@
+// The request that reads an integer, answered from the proved function: 21 of oracle/FORMAT.md. Test machinery: proved is
+// that every request is taken and every answer ends.
+use types::IntegerAnswer;
+use wire::Cursor;
+use wire::Reply;
+
+// Answers a request of this crate's code, which was read. `bytes` holds its source.
+pub fn answer(code: u64, text: &[u8], cursor: Cursor, bytes: &mut [u8], out: &mut [u8]) -> Reply {
+    if code != 0x21 {
+        return wire::none();
+    }
+    let kind = wire::read_kind(text, cursor);
+    let size = wire::read_word(text, kind.cursor);
+    let asked = wire::read_source(text, size.cursor, bytes);
+    let reply = wire::begin(text, asked.cursor);
+    let wanted = kind.kind;
+    let count = asked.count;
+    let place = asked.place;
+    let way = asked.way;
+    match integer::read_from(wanted, size.value, &bytes[0..count], place, way) {
+        IntegerAnswer::Read(next, value) => {
+            let placed = wire::taken_at(out, reply, next);
+            return wire_numbers::put_integer(out, placed, value);
+        }
+        IntegerAnswer::Refused(next, refusal) => {
+            return wire::refused_at(out, reply, next, refusal);
+        }
+    }
+}

@@ -1,0 +1,4 @@
+// Replays oracle/vectors/atoms.txt.
+fn main() {
+    replay::run(b"atoms");
+}

@@ -1,0 +1,4 @@
+// Replays oracle/vectors/casts.txt.
+fn main() {
+    replay::run(b"casts");
+}

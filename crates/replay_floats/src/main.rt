@@ -1,0 +1,4 @@
+// Replays oracle/vectors/floats.txt.
+fn main() {
+    replay::run(b"floats");
+}

@@ -1,0 +1,4 @@
+// Replays oracle/vectors/integers.txt.
+fn main() {
+    replay::run(b"integers");
+}

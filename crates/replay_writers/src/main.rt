@@ -1,0 +1,4 @@
+// Replays oracle/vectors/writers.txt.
+fn main() {
+    replay::run(b"writers");
+}
