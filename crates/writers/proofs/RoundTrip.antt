@@ -5,6 +5,7 @@ use mathlib.Core.Bool.{true, false}
 use mathlib.Core.List.{List, [], _++_, append-assoc}
 use Prim.Native.Nat.{ℕ, suc, _+_, _-_, _^_, _<_, _≤_}
 use native.Mathlib.Omega.{arith}
+use lib.Dec.{lit<}
 use lib.IntN.{ℤ, pos}
 use lib.ListN.{length, take, drop, length-append}
 use lib.Seq.{drop-append-seam, take-append-seam}
@@ -17,6 +18,7 @@ use Rattle.types.specs.declared.Kind.the-variants as K
 use Rattle.types.specs.declared.Special.{Special}
 use Rattle.types.specs.declared.Special.the-variants as S
 use Rattle.types.specs.declared.Integer.{Integer}
+use Rattle.types.specs.declared.Integer.the-variants as I
 use Rattle.types.specs.declared.SpecialAnswer.the-variants as SA
 use Rattle.types.specs.declared.HeaderAnswer.the-variants as H
 use Rattle.types.specs.declared.IntegerAnswer.the-variants as IA
@@ -29,13 +31,13 @@ use Rattle.little.specs.Le.{toLE}
 use Rattle.little.specs.Twos.{twosBits}
 use Rattle.little.specs.Counts.{holdsU, holdsS, shortestU, shortestS}
 use Rattle.little.proofs.Width.{to-length}
-use Rattle.little.proofs.Two.{bits-lt}
+use Rattle.little.proofs.Two.{bits-lt, twos-held}
 use Rattle.little.proofs.Shortest.{shortestU-holds, shortestU-listed, shortestU-least, shortestS-holds, shortestS-listed, shortestS-least}
-use Rattle.integer.specs.Integers.{allowedCount, integerKind, integerOf, intOf, uintOf, integerValue, integerFrom, integerRead}
+use Rattle.integer.specs.Integers.{allowedCount, wideBits, integerKind, integerOf, intOf, uintOf, integerValue, integerFrom, integerRead}
 use Rattle.integer.proofs.Answers.{from-body}
 use Rattle.integer.proofs.Counts.{allowed-bounds}
 use Rattle.integer.proofs.RoundTrip.{body-back, int-value-back, uint-value}
-use Rattle.writers.specs.Bytes.{integerBytes, signedBytes, unsignedBytes, specialBytes, bytesBytes}
+use Rattle.writers.specs.Bytes.{integerBytes, signedBytes, unsignedBytes, wideSigned, valueBytes, specialBytes, bytesBytes}
 use Rattle.writers.proofs.Levels.{number-bytes}
 
 -- a place within the source is itself
@@ -133,6 +135,53 @@ signed-written-back way z old h room =
 pub unsigned-written-back : (way : Way) (k : ℕ) (old : List ℕ) → k < 256 ^ 16 → length (unsignedBytes k) ≤ length old → UnsignedBack way (writtenContent (unsignedBytes k) old) 0 k
 unsigned-written-back way k old h room =
     rw (content-room (unsignedBytes k) old room) (unsigned-back way k [] (drop (length (unsignedBytes k)) old) h)
+
+-- THE ROUND TRIP of an integer that `write_to` writes, whatever its variant: what is read back has its value.
+
+-- the kind of its variant
+abbrev pub kindOf : Integer → Kind
+kindOf (I.I8 x) = K.Int
+kindOf (I.I16 x) = K.Int
+kindOf (I.I32 x) = K.Int
+kindOf (I.I64 x) = K.Int
+kindOf (I.I128 x) = K.Int
+kindOf (I.U8 x) = K.UInt
+kindOf (I.U16 x) = K.UInt
+kindOf (I.U32 x) = K.UInt
+kindOf (I.U64 x) = K.UInt
+kindOf (I.U128 x) = K.UInt
+
+-- its value fits 16 bytes, as that of every variant does
+abbrev pub Whole : Integer → Type 0
+Whole (I.I8 z) = holdsS 16 z ≡ true
+Whole (I.I16 z) = holdsS 16 z ≡ true
+Whole (I.I32 z) = holdsS 16 z ≡ true
+Whole (I.I64 z) = holdsS 16 z ≡ true
+Whole (I.I128 w) = wideBits w < 256 ^ 16
+Whole (I.U8 k) = k < 256 ^ 16
+Whole (I.U16 k) = k < 256 ^ 16
+Whole (I.U32 k) = k < 256 ^ 16
+Whole (I.U64 k) = k < 256 ^ 16
+Whole (I.U128 w) = wideBits w < 256 ^ 16
+
+pub record IntegerBack (way : Way) (s : List ℕ) (at : ℕ) (x : Integer) : Type 0 where
+  pub count : ℕ
+  pub integer : Integer
+  pub stands : Stands way s at (kindOf x) count integer
+  pub value : integerValue integer ≡ integerValue x
+
+pub integer-back : (way : Way) (x : Integer) (before after : List ℕ) → Whole x → IntegerBack way (before ++ (valueBytes x ++ after)) (length before) x
+unfolding valueBytes
+integer-back way (I.I8 z) before after h = let b = signed-back way z before after h in record { count = shortestS z; integer = intOf (shortestS z) (twosBits (shortestS z) z); stands = b .stands; value = b .value }
+integer-back way (I.I16 z) before after h = let b = signed-back way z before after h in record { count = shortestS z; integer = intOf (shortestS z) (twosBits (shortestS z) z); stands = b .stands; value = b .value }
+integer-back way (I.I32 z) before after h = let b = signed-back way z before after h in record { count = shortestS z; integer = intOf (shortestS z) (twosBits (shortestS z) z); stands = b .stands; value = b .value }
+integer-back way (I.I64 z) before after h = let b = signed-back way z before after h in record { count = shortestS z; integer = intOf (shortestS z) (twosBits (shortestS z) z); stands = b .stands; value = b .value }
+integer-back way (I.I128 w) before after h = let b = signed-back way (wideSigned w) before after (twos-held 16 (wideBits w) (lit< tt) h) in record { count = shortestS (wideSigned w); integer = intOf (shortestS (wideSigned w)) (twosBits (shortestS (wideSigned w)) (wideSigned w)); stands = b .stands; value = b .value }
+integer-back way (I.U8 k) before after h = let b = unsigned-back way k before after h in record { count = shortestU k; integer = uintOf (shortestU k) k; stands = b .stands; value = b .value }
+integer-back way (I.U16 k) before after h = let b = unsigned-back way k before after h in record { count = shortestU k; integer = uintOf (shortestU k) k; stands = b .stands; value = b .value }
+integer-back way (I.U32 k) before after h = let b = unsigned-back way k before after h in record { count = shortestU k; integer = uintOf (shortestU k) k; stands = b .stands; value = b .value }
+integer-back way (I.U64 k) before after h = let b = unsigned-back way k before after h in record { count = shortestU k; integer = uintOf (shortestU k) k; stands = b .stands; value = b .value }
+integer-back way (I.U128 w) before after h = let b = unsigned-back way (wideBits w) before after h in record { count = shortestU (wideBits w); integer = uintOf (shortestU (wideBits w)) (wideBits w); stands = b .stands; value = b .value }
 
 -- so many bytes
 pub signed-length : (z : ℤ) → holdsS 16 z ≡ true → length (signedBytes z) ≡ 1 + shortestS z
