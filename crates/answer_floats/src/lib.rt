@@ -1,6 +1,7 @@
-// The requests that read, write, cast and compare floats, answered from the proved functions: 22, 50 to 52, 54, 55, 76 and
-// 77 of oracle/FORMAT.md. Test machinery: proved is that every request is taken and every answer ends.
+// The requests that read, write, cast and compare floats, answered from the proved functions: 22, 50 to 55, 76 and 77
+// of oracle/FORMAT.md. Test machinery: proved is that every request is taken and every answer ends.
 use types::AsF32;
+use types::AsInteger;
 use types::FloatAnswer;
 use types::Written;
 use wire::Cursor;
@@ -111,6 +112,20 @@ fn as_f64(text: &[u8], cursor: Cursor, out: &mut [u8]) -> Reply {
     wire::put_word(out, taken, widened(field.width, field.bits))
 }
 
+fn as_integer(text: &[u8], cursor: Cursor, out: &mut [u8]) -> Reply {
+    let field = wire_numbers::read_float(text, cursor);
+    let reply = wire::begin(text, field.cursor);
+    match float_cast::as_integer(wire_numbers::float_of(field.width, field.bits)) {
+        AsInteger::Value(value) => {
+            let taken = wire::put_word(out, reply, 0);
+            return wire_numbers::put_integer(out, taken, value);
+        }
+        AsInteger::Refused(refusal) => {
+            return wire::refused(out, reply, refusal);
+        }
+    }
+}
+
 fn equal(text: &[u8], cursor: Cursor, out: &mut [u8]) -> Reply {
     let first = wire_numbers::read_float(text, cursor);
     let second = wire_numbers::read_float(text, first.cursor);
@@ -127,6 +142,7 @@ pub fn answer(code: u64, text: &[u8], cursor: Cursor, bytes: &mut [u8], out: &mu
         0x50 => is_zero(text, cursor, out),
         0x51 => as_f32(text, cursor, out),
         0x52 => as_f64(text, cursor, out),
+        0x53 => as_integer(text, cursor, out),
         0x54 => write_to(text, cursor, bytes, out),
         0x55 => equal(text, cursor, out),
         0x76 => write_number(text, cursor, 4, bytes, out),

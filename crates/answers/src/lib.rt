@@ -19,7 +19,7 @@ pub fn answer(request: &[u8], bytes: &mut [u8], scratch: &mut [u8], out: &mut [u
         0x21 => {
             return answer_integers::answer(number, request, cursor, bytes, out);
         }
-        0x22 | 0x50..=0x52 | 0x54 | 0x55 | 0x76 | 0x77 => {
+        0x22 | 0x50..=0x55 | 0x76 | 0x77 => {
             return answer_floats::answer(number, request, cursor, bytes, out);
         }
         0x23..=0x25 => {

@@ -1,9 +1,9 @@
 -- The bytes of a number, where they stand, read back under every way as the integer that has its value, just past them,
 -- whatever follows. One law over the count.
-use mathlib.Core.Path.{_≡_, refl, _∙_, sym, ap}
+use mathlib.Core.Path.{_≡_, refl, _∙_, ap}
 use mathlib.Core.Bool.{true}
 use mathlib.Core.List.{List, _++_}
-use Prim.Native.Nat.{ℕ, _+_, _*_, _/_, _%_, _^_, _<_, _≤_}
+use Prim.Native.Nat.{ℕ, _+_, _^_, _<_}
 use native.Mathlib.Omega.{arith}
 use native.Mathlib.Nat.{mod-eq-of-lt, mod-add-div}
 use lib.IntN.{ℤ, pos}
@@ -13,10 +13,10 @@ use Rattle.types.specs.declared.Kind.{Kind}
 use Rattle.types.specs.declared.IntegerAnswer.the-variants as IA
 use Rattle.little.specs.Le.{toLE, numberAt}
 use Rattle.little.specs.Twos.{twos, twosBits}
-use Rattle.little.specs.Counts.{counts, holdsU, holdsS}
+use Rattle.little.specs.Counts.{counts, holdsS}
 use Rattle.little.proofs.Width.{to-length}
 use Rattle.little.proofs.At.{number-reads}
-use Rattle.little.proofs.Two.{twos-bits, bits-lt}
+use Rattle.little.proofs.Two.{twos-bits}
 use Rattle.integer.specs.Integers.{allowedCount, wideOf, wideBits, intOf, uintOf, integerOf, integerValue, integerBody}
 use Rattle.integer.proofs.Variants.{int-1, int-2, int-3, int-4, int-6, int-8, int-16, uint-1, uint-2, uint-3, uint-4, uint-6, uint-8, uint-16}
 use Rattle.integer.proofs.Counts.{each}

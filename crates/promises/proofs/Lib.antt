@@ -9,6 +9,7 @@ pub mod Cast
 pub mod Integer
 pub mod Writers
 pub mod Float
+pub mod FloatCast
 pub mod Atom
 pub mod Demand2
 pub mod Starred

@@ -1,0 +1,172 @@
+-- From the whole number of a pattern to the integer: what `whole_from` answers decides, and its sign and width follow.
+use mathlib.Core.Path.{_≡_, refl, sym, ap, _∙_, subst}
+use mathlib.Core.Bool.{Bool, true, false}
+use Prim.Native.Nat.{ℕ, _+_, _-_, _*_, _/_, _%_, _^_, _≤_, _<_}
+use native.Mathlib.Nat.{div-eq-of-lt, lt-of-lt-of-le}
+use native.Mathlib.Omega.{arith}
+use lib.Dec.{T, ltb, eqb}
+use lib.IntN.{ℤ}
+use lib.Pow.{pow-mono}
+use lib.Ieee.{Float, binary64, fits, toBits}
+use mir.Syntax.{signed, Width, w32}
+use mir.Val.{hbits}
+use borrow.Author.Tests.{lt-ltb, le-ltb, ltb-true}
+use Rattle.types.specs.Choice.{pick}
+use Rattle.types.specs.declared.Float as Variant
+use Rattle.types.specs.declared.Float.the-variants as F
+use Rattle.types.specs.declared.Refusal.the-variants as R
+use Rattle.types.specs.declared.AsInteger.{AsInteger}
+use Rattle.types.specs.declared.AsInteger.the-variants as AsInteger
+use Rattle.binary.specs.Formats.{double, allOnes, negative, exponent, fraction, magnitude, Meaning, finite, infinite, nan, meaning}
+use Rattle.binary.specs.Floats.{floatMeaning, plain}
+use Rattle.binary.proofs.Patterns.{fraction-lt, Reading, is-finite, is-infinite, is-nan, reading}
+use Rattle.binary.proofs.Values.{toBits-means}
+use Rattle.float.specs.Values.{floatValue}
+use Rattle.cast.specs.Froms.{from}
+use Rattle.float_cast.specs.Integral.{one, least, takes, clamped, integral, asInteger}
+use Rattle.float_cast.specs.Steps.{most, wholeOf, wholeFrom}
+use Rattle.float_cast.specs.declared.Whole.{Whole}
+use Rattle.float_cast.specs.declared.Whole.the-variants as Whole
+use Rattle.float_cast.proofs.Clamps.{clamped-zero, clamped-least}
+use Rattle.float_cast.proofs.Wholes.{field-below, field-above}
+
+-- ---- the whole number of a pattern
+
+clash : (e o : ℕ) → e < o → e ≡ o → ⊥
+clash e o h q = omega arith
+
+module _ (b small : ℕ) (some : 0 < small) where
+  from-small : (s : Bool) (m : ℕ) → m < 2 ^ (51 + small) → wholeFrom small (finite s m) ≡ Whole.Number 0
+  unfolding wholeFrom
+  from-small s m h = rw (lt-ltb m (2 ^ (51 + small)) h)
+
+  from-large : (s : Bool) (m : ℕ) → 2 ^ (51 + small) ≤ m → wholeFrom small (finite s m) ≡ wholeOf m
+  unfolding wholeFrom
+  from-large s m h = rw (le-ltb m (2 ^ (51 + small)) h)
+
+  pub small-number : exponent double b < small → small < 2047 → Whole.Number 0 ≡ wholeFrom small (meaning double b)
+  small-number h l = go (reading double b)
+    where
+      late : (e s : ℕ) → e < s → s < 2047 → e ≡ 2047 → ⊥
+      late e s h l q = omega arith
+
+      go : Reading double b → Whole.Number 0 ≡ wholeFrom small (meaning double b)
+      go (is-finite e m) =
+          sym (ap (wholeFrom small) m
+          ∙ from-small (negative double b) (magnitude double (exponent double b) (fraction double b)) (field-below (fraction double b) small (fraction-lt double b) some (exponent double b) h))
+      go (is-infinite e z m) = absurd (late (exponent double b) small h l e)
+      go (is-nan e z m) = absurd (late (exponent double b) small h l e)
+
+  pub no-number : exponent double b ≡ 2047 → Whole.Lost ≡ wholeFrom small (meaning double b)
+  unfolding wholeFrom
+  no-number h = go (reading double b)
+    where
+      go : Reading double b → Whole.Lost ≡ wholeFrom small (meaning double b)
+      go (is-finite e m) = absurd (clash (exponent double b) 2047 e h)
+      go (is-infinite e z m) = sym (ap (wholeFrom small) m)
+      go (is-nan e z m) = sym (ap (wholeFrom small) m)
+
+  pub large-number : (r : Whole) → small ≤ exponent double b → (exponent double b ≡ 2047 → ⊥) → r ≡ wholeOf (magnitude double (exponent double b) (fraction double b)) → r ≡ wholeFrom small (meaning double b)
+  large-number r h k q = go (reading double b)
+    where
+      go : Reading double b → r ≡ wholeFrom small (meaning double b)
+      go (is-finite e m) =
+          q
+          ∙ sym (ap (wholeFrom small) m
+          ∙ from-large (negative double b) (magnitude double (exponent double b) (fraction double b)) (field-above (fraction double b) small (fraction-lt double b) some (exponent double b) h))
+      go (is-infinite e z m) = absurd (k e)
+      go (is-nan e z m) = absurd (k e)
+
+-- ---- the integer
+
+lost-number : (n : ℕ) → Whole.Lost ≡ Whole.Number n → ⊥
+lost-number n h = let z : _≡_ {A = ℕ} 0 1 = cc in omega arith
+
+number-lost : (n : ℕ) → Whole.Number n ≡ Whole.Lost → ⊥
+number-lost n h = let z : _≡_ {A = ℕ} 0 1 = cc in omega arith
+
+same-number : (a b : ℕ) → Whole.Number a ≡ Whole.Number b → a ≡ b
+same-number a b h = cc
+
+module _ (k small : ℕ) (w : Width) (bound : 51 + small ≡ 1074 - k) (room : 2 ^ hbits w ≤ most) where
+  value : ℤ → AsInteger
+  value z = AsInteger.Value (from signed w z)
+
+  refused : AsInteger
+  refused = AsInteger.Refused R.ImpreciseCastWouldLoseData
+
+  same-bound : (m : ℕ) → ltb m (2 ^ (51 + small)) ≡ ltb m (2 ^ (1074 - k))
+  same-bound m = ap (λ (x : ℕ). ltb m (2 ^ x)) bound
+
+  none : (m : ℕ) → m < 2 ^ (51 + small) → m / one ≡ 0
+  none m h = div-eq-of-lt (lt-of-lt-of-le h (pow-mono {i = 51 + small} {j = 1074} (omega arith)))
+
+  taken : (s : Bool) (m n : ℕ) (a b : Bool) → ltb m (2 ^ (51 + small)) ≡ a → eqb (m % one) 0 ≡ b
+      → pick a (Whole.Number 0) (pick b (Whole.Number (least (m / one) most)) Whole.Lost) ≡ Whole.Number n
+      → AsInteger.Value (from signed w (clamped (hbits w) s n)) ≡ pick (pick a true b) (AsInteger.Value (from signed w (clamped (hbits w) s (m / one)))) refused
+  taken s m n true b p q h =
+      ap (λ (x : ℕ). AsInteger.Value (from signed w (clamped (hbits w) s x))) (sym (same-number 0 n h) ∙ sym (none m (ltb-true m (2 ^ (51 + small)) p)))
+  taken s m n false true p q h =
+      ap (λ (x : ℕ). AsInteger.Value (from signed w (clamped (hbits w) s x))) (sym (same-number (least (m / one) most) n h))
+      ∙ ap (λ (z : ℤ). AsInteger.Value (from signed w z)) (clamped-least (hbits w) (m / one) most s room)
+  taken s m n false false p q h = absurd (lost-number n h)
+
+  lost : (s : Bool) (m : ℕ) (a b : Bool)
+      → pick a (Whole.Number 0) (pick b (Whole.Number (least (m / one) most)) Whole.Lost) ≡ Whole.Lost
+      → refused ≡ pick (pick a true b) (AsInteger.Value (from signed w (clamped (hbits w) s (m / one)))) refused
+  lost s m true b h = absurd (number-lost 0 h)
+  lost s m false true h = absurd (number-lost (least (m / one) most) h)
+  lost s m false false h = refl
+
+  finite-is : (s : Bool) (m : ℕ) → pick (pick (ltb m (2 ^ (51 + small))) true (eqb (m % one) 0)) (AsInteger.Value (from signed w (clamped (hbits w) s (m / one)))) refused ≡ integral k w (finite s m)
+  unfolding integral refused
+  finite-is s m = ap (λ (t : Bool). pick (pick t true (eqb (m % one) 0)) (AsInteger.Value (from signed w (clamped (hbits w) s (m / one)))) (AsInteger.Refused R.ImpreciseCastWouldLoseData)) (same-bound m)
+
+  meant-number : (s : Bool) (m n : ℕ) → wholeFrom small (finite s m) ≡ Whole.Number n → AsInteger.Value (from signed w (clamped (hbits w) s n)) ≡ integral k w (finite s m)
+  unfolding wholeFrom wholeOf
+  meant-number s m n h = taken s m n (ltb m (2 ^ (51 + small))) (eqb (m % one) 0) refl refl h ∙ finite-is s m
+
+  meant-lost : (m : Meaning) → wholeFrom small m ≡ Whole.Lost → AsInteger.Refused R.ImpreciseCastWouldLoseData ≡ integral k w m
+  unfolding wholeFrom wholeOf integral refused
+  meant-lost (finite s m) h = lost s m (ltb m (2 ^ (51 + small))) (eqb (m % one) 0) h ∙ finite-is s m
+  meant-lost (infinite s) h = refl
+  meant-lost (nan s t) h = refl
+
+  no-infinite : (s : Bool) (n : ℕ) → wholeFrom small (infinite s) ≡ Whole.Number n → ⊥
+  unfolding wholeFrom
+  no-infinite s n h = lost-number n h
+
+  no-nan : (s : Bool) (t n : ℕ) → wholeFrom small (nan s t) ≡ Whole.Number n → ⊥
+  unfolding wholeFrom
+  no-nan s t n h = lost-number n h
+
+  plain-integral : (m : Meaning) → integral k w m ≡ integral k w (plain m)
+  unfolding integral
+  plain-integral (finite s m) = refl
+  plain-integral (infinite s) = refl
+  plain-integral (nan s t) = refl
+
+  -- a float by its pattern
+  module _ (x : Float) (F : T (fits binary64 x)) (b : ℕ) (e : b ≡ toBits binary64 x) (r : Whole) (a : r ≡ wholeFrom small (meaning double b)) where
+    means : integral k w (meaning double b) ≡ integral k w (floatMeaning x)
+    means = plain-integral (meaning double b) ∙ ap (λ (n : ℕ). integral k w (plain (meaning double n))) e ∙ ap (integral k w) (toBits-means binary64 x F)
+
+    pub integer-taken : (n : ℕ) (z : ℤ) → r ≡ Whole.Number n → z ≡ clamped (hbits w) (negative double b) n → AsInteger.Value (from signed w z) ≡ integral k w (floatMeaning x)
+    integer-taken n z h q = ap (λ (y : ℤ). AsInteger.Value (from signed w y)) q ∙ go (reading double b) ∙ means
+      where
+        found : wholeFrom small (meaning double b) ≡ Whole.Number n
+        found = sym a ∙ h
+
+        go : Reading double b → AsInteger.Value (from signed w (clamped (hbits w) (negative double b) n)) ≡ integral k w (meaning double b)
+        go (is-finite o m) =
+            meant-number (negative double b) (magnitude double (exponent double b) (fraction double b)) n (sym (ap (wholeFrom small) m) ∙ found) ∙ ap (integral k w) (sym m)
+        go (is-infinite o z m) = absurd (no-infinite (negative double b) n (sym (ap (wholeFrom small) m) ∙ found))
+        go (is-nan o z m) = absurd (no-nan (negative double b) (fraction double b) n (sym (ap (wholeFrom small) m) ∙ found))
+
+    pub integer-lost : r ≡ Whole.Lost → AsInteger.Refused R.ImpreciseCastWouldLoseData ≡ integral k w (floatMeaning x)
+    integer-lost h = meant-lost (meaning double b) (sym a ∙ h) ∙ means
+
+-- an F32, by the value that it carries
+pub single-integer : (x : Variant.Float) (v : Float) → x ≡ F.F32 v → integral 23 w32 (floatMeaning (floatValue x)) ≡ asInteger x
+unfolding asInteger
+single-integer x v e = ap (λ (y : Variant.Float). integral 23 w32 (floatMeaning (floatValue y))) e ∙ sym (ap asInteger e)

@@ -1,0 +1,3 @@
+pub mod Clamps
+pub mod Wholes
+pub mod Integrals
