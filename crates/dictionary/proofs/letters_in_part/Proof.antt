@@ -1,0 +1,58 @@
+use Rattle.dictionary.proofs.letters_in_part.Statement.{statement}
+use Rattle.dictionary.proofs.letters_in_part.Tie as tie
+use Rattle.dictionary.proofs.letters_in_part.Reads as reads
+use Rattle.dictionary.proofs.letters_in_part.Lts as lts
+use Rattle.dictionary.proofs.letter_of.Reads as letter-of-reads
+
+abbrev Inv-loop : tie.InvT-loop
+Inv-loop part count₀ i₀ count i = ?
+
+abbrev μ-loop : tie.MeasureT-loop
+μ-loop part count₀ i₀ count i = ?
+
+-- src/lib.rt:152:5
+loop-holds : tie.Need-loop-holds Inv-loop μ-loop
+loop-holds c = ?
+
+-- src/lib.rt:153:28
+shared-slice-read-letter-of : tie.Need-shared-slice-read-letter-of Inv-loop μ-loop
+shared-slice-read-letter-of c = ?
+
+-- src/lib.rt:153:18
+letter-of-requires : tie.Need-letter-of-requires Inv-loop μ-loop
+letter-of-requires c κs = ?
+
+-- src/lib.rt:153:9
+add-count : tie.Need-add-count Inv-loop μ-loop
+add-count c = ?
+
+-- src/lib.rt:154:9
+add-i : tie.Need-add-i Inv-loop μ-loop
+add-i c = ?
+
+-- src/lib.rt:152:5
+loop-less : tie.Need-loop-less Inv-loop μ-loop
+loop-less c = ?
+
+-- src/lib.rt:152:5
+loop-again : tie.Need-loop-again Inv-loop μ-loop
+loop-again c = ?
+
+-- src/lib.rt:146:1
+returns : tie.Need-returns Inv-loop μ-loop
+returns c = ?
+
+pub letters-in-part-spec : {M : Type 1} → statement M
+letters-in-part-spec =
+    tie.close
+    (tie.spec
+    Inv-loop
+    μ-loop
+    loop-holds
+    shared-slice-read-letter-of
+    letter-of-requires
+    add-count
+    add-i
+    loop-less
+    loop-again
+    returns)
