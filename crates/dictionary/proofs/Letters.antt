@@ -6,8 +6,8 @@ use Prim.Native.Nat.{ℕ, suc, _+_, _-_, _≤_, _<_}
 use native.Mathlib.Numerals.{add-one}
 use native.Mathlib.Omega.{arith}
 use lib.Dec.{ltb}
-use lib.ListN.{length, take, drop, getD}
-use lib.Seq.{drop-cons, drop-length}
+use lib.ListN.{length, take, drop, getD, take-append-drop}
+use lib.Seq.{drop-cons, drop-length, drop-drop}
 use Rattle.types.specs.Choice.{pick}
 use Rattle.dictionary.specs.Letters.{letter, letters}
 
@@ -28,3 +28,23 @@ pub joined : (a b : List ℕ) → letters (a ++ b) ≡ letters a + letters b
 unfolding letters
 joined [] b = omega arith
 joined (x ∷ a) b = let r = joined a b in omega arith
+
+-- a part more
+pub part-more : (a : List ℕ) (i e n m : ℕ) → i ≤ e → n + letters (drop i a) ≡ letters a → m ≡ n + letters (take (e - i) (drop i a)) → m + letters (drop e a) ≡ letters a
+part-more a i e n m h inv k =
+    let whole : letters (drop i a) ≡ letters (take (e - i) (drop i a)) + letters (drop (e - i) (drop i a)) = ap letters (sym (take-append-drop (e - i) (drop i a))) ∙ joined (take (e - i) (drop i a)) (drop (e - i) (drop i a)) in
+    let there : i + (e - i) ≡ e = omega arith in
+    let later : drop (e - i) (drop i a) ≡ drop e a = drop-drop (e - i) i a ∙ ap (λ (j : ℕ). drop j a) there in
+    let last : letters (drop (e - i) (drop i a)) ≡ letters (drop e a) = ap letters later in
+    omega arith
+
+-- there are no more letters than bytes
+one-or-none : (t u : Bool) → pick t 1 (pick u 1 0) ≤ 1
+one-or-none true u = omega arith
+one-or-none false true = omega arith
+one-or-none false false = omega arith
+
+pub letters-most : (a : List ℕ) → letters a ≤ length a
+unfolding letters
+letters-most [] = omega arith
+letters-most (b ∷ a) = let r = letters-most a in let o = one-or-none (ltb b 0x80) (ltb 0xBF b) in omega arith

@@ -1,3 +1,12 @@
+-- `dictionary::letters_in_part` meets its contract: what was counted, with what is left, is the whole.
+use Prim.Native.Nat.{_≤_, _-_, _+_}
+use mathlib.Core.Path.{_≡_}
+use native.Mathlib.Omega.{arith}
+use borrow.Author.Needs.{needs}
+use denote.Ref.{now}
+use lib.ListN.{length, drop}
+use Rattle.dictionary.specs.Letters.{letters}
+use Rattle.dictionary.proofs.Letters.{byte-more, all-counted}
 use Rattle.dictionary.proofs.letters_in_part.Statement.{statement}
 use Rattle.dictionary.proofs.letters_in_part.Tie as tie
 use Rattle.dictionary.proofs.letters_in_part.Reads as reads
@@ -5,42 +14,48 @@ use Rattle.dictionary.proofs.letters_in_part.Lts as lts
 use Rattle.dictionary.proofs.letter_of.Reads as letter-of-reads
 
 abbrev Inv-loop : tie.InvT-loop
-Inv-loop part count₀ i₀ count i = ?
+Inv-loop part count₀ i₀ count i = (i ≤ length part) × (count ≤ i) × (count + letters (drop i part) ≡ letters part)
 
 abbrev μ-loop : tie.MeasureT-loop
-μ-loop part count₀ i₀ count i = ?
+μ-loop part count₀ i₀ count i = length part - i
 
 -- src/lib.rt:152:5
 loop-holds : tie.Need-loop-holds Inv-loop μ-loop
-loop-holds c = ?
+loop-holds c = search needs
 
 -- src/lib.rt:153:28
 shared-slice-read-letter-of : tie.Need-shared-slice-read-letter-of Inv-loop μ-loop
-shared-slice-read-letter-of c = ?
+shared-slice-read-letter-of c = search needs
 
 -- src/lib.rt:153:18
 letter-of-requires : tie.Need-letter-of-requires Inv-loop μ-loop
-letter-of-requires c κs = ?
+letter-of-requires c κs = search needs
 
 -- src/lib.rt:153:9
 add-count : tie.Need-add-count Inv-loop μ-loop
-add-count c = ?
+add-count c = search needs
 
 -- src/lib.rt:154:9
 add-i : tie.Need-add-i Inv-loop μ-loop
-add-i c = ?
+add-i c = search needs
 
 -- src/lib.rt:152:5
 loop-less : tie.Need-loop-less Inv-loop μ-loop
-loop-less c = ?
+loop-less c = search needs
 
 -- src/lib.rt:152:5
 loop-again : tie.Need-loop-again Inv-loop μ-loop
-loop-again c = ?
+loop-again c =
+    let a = now (c .before .before .before .before .before .args .part) in
+    let l = c .before .before .before .loop in
+    (search needs, search needs, byte-more a (l .i) (l .count) _ (c .before .before .loop-test .taken) (l .inv .2) (omega arith))
 
 -- src/lib.rt:146:1
 returns : tie.Need-returns Inv-loop μ-loop
-returns c = ?
+returns c =
+    let a = now (c .before .before .before .args .part) in
+    let l = c .before .loop in
+    (all-counted a (l .i) _ (omega arith) (l .inv .2), omega arith)
 
 pub letters-in-part-spec : {M : Type 1} → statement M
 letters-in-part-spec =
