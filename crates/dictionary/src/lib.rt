@@ -222,5 +222,10 @@ pub fn tally(source: &[u8]) -> TallyAnswer
         }
     }
     let body = BodyBytes(body);
-    return TallyAnswer::Done(Tallied { atoms, body, charge, letters });
+    return TallyAnswer::Done(Tallied {
+        atoms,
+        body,
+        charge,
+        letters,
+    });
 }

@@ -9,10 +9,6 @@ use Rattle.dictionary.specs.Letters.{letters}
 use Rattle.dictionary.proofs.Letters.{part-more, all-counted}
 use Rattle.dictionary.proofs.count_letters.Statement.{statement}
 use Rattle.dictionary.proofs.count_letters.Tie as tie
-use Rattle.dictionary.proofs.count_letters.Reads as reads
-use Rattle.dictionary.proofs.count_letters.Lts as lts
-use Rattle.dictionary.proofs.letters_in_part.Reads as letters-in-part-reads
-use Rattle.dictionary.proofs.part_end.Reads as part-end-reads
 
 abbrev Inv-loop : tie.InvT-loop
 Inv-loop string count₀ i₀ count i = (i ≤ length string) × (count ≤ i) × (count + letters (drop i string) ≡ letters string)
@@ -20,43 +16,33 @@ Inv-loop string count₀ i₀ count i = (i ≤ length string) × (count ≤ i) �
 abbrev μ-loop : tie.MeasureT-loop
 μ-loop string count₀ i₀ count i = length string - i
 
--- src/lib.rt:176:5
 loop-holds : tie.Need-loop-holds Inv-loop μ-loop
 loop-holds c = search needs
 
--- src/lib.rt:177:13
 part-end-requires : tie.Need-part-end-requires Inv-loop μ-loop
 part-end-requires c κs = search needs
 
--- src/lib.rt:178:34
 sub-letters-in-part : tie.Need-sub-letters-in-part Inv-loop μ-loop
 sub-letters-in-part c = search needs
 
--- src/lib.rt:178:34
 part-letters-in-part-start : tie.Need-part-letters-in-part-start Inv-loop μ-loop
 part-letters-in-part-start c = search needs
 
--- src/lib.rt:178:34
 part-letters-in-part-end : tie.Need-part-letters-in-part-end Inv-loop μ-loop
 part-letters-in-part-end c = search needs
 
--- src/lib.rt:178:18
 letters-in-part-requires : tie.Need-letters-in-part-requires Inv-loop μ-loop
 letters-in-part-requires c κs = search needs
 
--- src/lib.rt:178:18
 cast-count : tie.Need-cast-count Inv-loop μ-loop
 cast-count c = search needs
 
--- src/lib.rt:178:9
 add-count : tie.Need-add-count Inv-loop μ-loop
 add-count c = search needs
 
--- src/lib.rt:176:5
 loop-less : tie.Need-loop-less Inv-loop μ-loop
 loop-less c = search needs
 
--- src/lib.rt:176:5
 loop-again : tie.Need-loop-again Inv-loop μ-loop
 loop-again c =
     let a = now (c .before .before .before .before .before .before .args .string) in
@@ -64,7 +50,6 @@ loop-again c =
     let e = c .before .before .part-end .ensures in
     (search needs, search needs, part-more a (l .i) (c .before .before .part-end .result) (l .count) _ (omega arith) (l .inv .2) (ap (λ (n : ℕ). l .count + n) (c .letters-in-part .ensures .0)))
 
--- src/lib.rt:171:1
 returns : tie.Need-returns Inv-loop μ-loop
 returns c =
     let a = now (c .before .before .before .args .string) in

@@ -3,18 +3,13 @@ use borrow.Author.Needs.{needs}
 use borrow.Author.Tests.{lt-ltb, le-ltb}
 use Rattle.dictionary.proofs.letter_of.Statement.{statement}
 use Rattle.dictionary.proofs.letter_of.Tie as tie
-use Rattle.dictionary.proofs.letter_of.Reads as reads
-use Rattle.dictionary.proofs.letter_of.Lts as lts
 
--- src/lib.rt:140:9
 returns : tie.Need-returns
 returns c = (simp (lt-ltb _ _ (c .if1 .taken)), search needs)
 
--- src/lib.rt:136:1
 returns-2 : tie.Need-returns-2
 returns-2 c = (simp (le-ltb _ _ (c .before .if1 .left), lt-ltb _ _ (c .if2 .taken)), search needs)
 
--- src/lib.rt:136:1
 returns-3 : tie.Need-returns-3
 returns-3 c = (simp (le-ltb _ _ (c .before .if1 .left), le-ltb _ _ (c .if2 .left)), search needs)
 

@@ -9,9 +9,6 @@ use Rattle.dictionary.specs.Letters.{letters}
 use Rattle.dictionary.proofs.Letters.{byte-more, all-counted}
 use Rattle.dictionary.proofs.letters_in_part.Statement.{statement}
 use Rattle.dictionary.proofs.letters_in_part.Tie as tie
-use Rattle.dictionary.proofs.letters_in_part.Reads as reads
-use Rattle.dictionary.proofs.letters_in_part.Lts as lts
-use Rattle.dictionary.proofs.letter_of.Reads as letter-of-reads
 
 abbrev Inv-loop : tie.InvT-loop
 Inv-loop part count₀ i₀ count i = (i ≤ length part) × (count ≤ i) × (count + letters (drop i part) ≡ letters part)
@@ -19,38 +16,30 @@ Inv-loop part count₀ i₀ count i = (i ≤ length part) × (count ≤ i) × (c
 abbrev μ-loop : tie.MeasureT-loop
 μ-loop part count₀ i₀ count i = length part - i
 
--- src/lib.rt:152:5
 loop-holds : tie.Need-loop-holds Inv-loop μ-loop
 loop-holds c = search needs
 
--- src/lib.rt:153:28
 shared-slice-read-letter-of : tie.Need-shared-slice-read-letter-of Inv-loop μ-loop
 shared-slice-read-letter-of c = search needs
 
--- src/lib.rt:153:18
 letter-of-requires : tie.Need-letter-of-requires Inv-loop μ-loop
 letter-of-requires c κs = search needs
 
--- src/lib.rt:153:9
 add-count : tie.Need-add-count Inv-loop μ-loop
 add-count c = search needs
 
--- src/lib.rt:154:9
 add-i : tie.Need-add-i Inv-loop μ-loop
 add-i c = search needs
 
--- src/lib.rt:152:5
 loop-less : tie.Need-loop-less Inv-loop μ-loop
 loop-less c = search needs
 
--- src/lib.rt:152:5
 loop-again : tie.Need-loop-again Inv-loop μ-loop
 loop-again c =
     let a = now (c .before .before .before .before .before .args .part) in
     let l = c .before .before .before .loop in
     (search needs, search needs, byte-more a (l .i) (l .count) _ (c .before .before .loop-test .taken) (l .inv .2) (omega arith))
 
--- src/lib.rt:146:1
 returns : tie.Need-returns Inv-loop μ-loop
 returns c =
     let a = now (c .before .before .before .args .part) in

@@ -11,9 +11,6 @@ use Rattle.dictionary.proofs.Steps.{forward}
 use Rattle.dictionary.proofs.Turns.{run-on, run-stop, run-end}
 use Rattle.dictionary.proofs.run.Statement.{statement}
 use Rattle.dictionary.proofs.run.Tie as tie
-use Rattle.dictionary.proofs.run.Reads as reads
-use Rattle.dictionary.proofs.run.Lts as lts
-use Rattle.dictionary.proofs.skip_atom.Reads as skip-atom-reads
 
 abbrev Inv-loop : tie.InvT-loop
 Inv-loop source atoms₀ at₀ left₀ atoms at left = (at ≤ length source) × (atoms ≤ at) × (runFrom (suc (length source) - atoms) source at (record { 0 = left }) atoms ≡ runAll source (record { 0 = left₀ }))
@@ -21,26 +18,21 @@ Inv-loop source atoms₀ at₀ left₀ atoms at left = (at ≤ length source) ×
 abbrev μ-loop : tie.MeasureT-loop
 μ-loop source atoms₀ at₀ left₀ atoms at left = length source - at
 
--- src/lib.rt:120:5
 loop-holds : tie.Need-loop-holds Inv-loop μ-loop
 loop-holds c =
     let s = now (c .before .args .source) in
     let z : suc (length s) - 0 ≡ suc (length s) = omega arith in
     (search needs, search needs, ap (λ (f : ℕ). runFrom f s 0 (c .before .args .budget) 0) z)
 
--- src/lib.rt:121:15
 skip-atom-requires : tie.Need-skip-atom-requires Inv-loop μ-loop
 skip-atom-requires c κs = search needs
 
--- src/lib.rt:122:27
 enum-known-place : tie.Need-enum-known-place Inv-loop μ-loop
 enum-known-place c = search needs
 
--- src/lib.rt:123:17
 add-atoms : tie.Need-add-atoms Inv-loop μ-loop
 add-atoms c = search needs
 
--- src/lib.rt:120:5
 loop-less : tie.Need-loop-less Inv-loop μ-loop
 loop-less c =
     let s = now (c .before .before .before .before .before .before .before .args .source) in
@@ -49,7 +41,6 @@ loop-less c =
     let e = sym (c .before .before .before .skip-atom .ensures) ∙ g .1 in
     omega (arith, forward s (l .at) (l .inv .0) _ (g .0 .0) (g .0 .1 .0) (g .0 .1 .1 .0) (g .0 .1 .1 .1 .0) e)
 
--- src/lib.rt:120:5
 loop-again : tie.Need-loop-again Inv-loop μ-loop
 loop-again c =
     let s = now (c .before .before .before .before .before .before .before .args .source) in
@@ -59,11 +50,9 @@ loop-again c =
     let k = forward s (l .at) (l .inv .0) _ (g .0 .0) (g .0 .1 .0) (g .0 .1 .1 .0) (g .0 .1 .1 .1 .0) e in
     (omega arith, omega arith, sym (run-on s (suc (length s) - l .atoms) (suc (length s) - (l .atoms + 1)) (l .at) (record { 0 = l .left }) (l .atoms) (omega arith) (g .0 .0) (g .0 .1 .0) (g .0 .1 .1 .0) (g .0 .1 .1 .1 .0) (c .before .before .before .before .loop-test .taken) e) ∙ l .inv .2)
 
--- src/lib.rt:127:30
 enum-known-place-2 : tie.Need-enum-known-place-2 Inv-loop μ-loop
 enum-known-place-2 c = search needs
 
--- src/lib.rt:128:17
 returns : tie.Need-returns Inv-loop μ-loop
 returns c =
     let s = now (c .before .before .before .before .before .before .before .args .source) in
@@ -72,7 +61,6 @@ returns c =
     let e = sym (c .before .before .before .skip-atom .ensures) ∙ g .1 in
     sym (run-stop s (suc (length s) - l .atoms) (length s - l .atoms) (l .at) (record { 0 = l .left }) (l .atoms) (omega arith) (g .0 .0) (g .0 .1 .0) (g .0 .1 .1 .0) (c .before .before .before .before .loop-test .taken) e) ∙ l .inv .2
 
--- src/lib.rt:132:5
 returns-2 : tie.Need-returns-2 Inv-loop μ-loop
 returns-2 c =
     let s = now (c .before .before .before .args .source) in

@@ -15,20 +15,13 @@ use Rattle.dictionary.proofs.Bodies.{after-header}
 use borrow.Author.Needs.{needs}
 use Rattle.dictionary.proofs.skip_atom.Statement.{statement}
 use Rattle.dictionary.proofs.skip_atom.Tie as tie
-use Rattle.dictionary.proofs.skip_atom.Reads as reads
-use Rattle.dictionary.proofs.skip_atom.Lts as lts
-use Rattle.dictionary.proofs.skip_body.Reads as skip-body-reads
-use Rattle.header.proofs.read_atom_header.Reads as read-atom-header-reads
 
--- src/lib.rt:103:11
 read-atom-header-requires : tie.Need-read-atom-header-requires
 read-atom-header-requires c κs = search needs
 
--- src/lib.rt:104:28
 enum-known-next : tie.Need-enum-known-next
 enum-known-next c = search needs
 
--- src/lib.rt:105:13
 skip-body-requires : tie.Need-skip-body-requires
 skip-body-requires c κs =
     let a = c .before .before .before .before .before .args in
@@ -36,7 +29,6 @@ skip-body-requires c κs =
     let e = (sym (c .before .before .before .read-atom-header .ensures) ∙ c .before .next .given .1) in
     subst (λ (n : ℕ). n ≤ length s) (ap headerPlace e) (header-place W.ExactLent s (startOf s (a .place .0)) (start-within s (a .place .0)) .1)
 
--- src/lib.rt:105:13
 returns : tie.Need-returns
 unfolding skipped atomRead
 returns c =
@@ -48,11 +40,9 @@ returns c =
     c .skip-body .ensures
     ∙ sym (ap (λ (h : HeaderAnswer). forgotten h (atomFrom W.ExactLent s (a .budget) [] h)) e ∙ after-header s (g .0 .1 .1 .0) (g .0 .0) (a .budget) (g .0 .1 .0) within)
 
--- src/lib.rt:107:31
 enum-known-end : tie.Need-enum-known-end
 enum-known-end c = search needs
 
--- src/lib.rt:108:13
 returns-2 : tie.Need-returns-2
 unfolding skipped atomRead
 returns-2 c =

@@ -7,111 +7,83 @@ use Rattle.dictionary.proofs.Bodies.{past-header, past-special, past-ot
 use borrow.Author.Needs.{needs}
 use Rattle.dictionary.proofs.skip_body.Statement.{statement}
 use Rattle.dictionary.proofs.skip_body.Tie as tie
-use Rattle.dictionary.proofs.skip_body.Reads as reads
-use Rattle.dictionary.proofs.skip_body.Lts as lts
-use Rattle.atom.proofs.count_of.Reads as count-of-reads
-use Rattle.dictionary.proofs.skip_bytes.Reads as skip-bytes-reads
-use Rattle.dictionary.proofs.skip_number.Reads as skip-number-reads
-use Rattle.float.proofs.allowed.Reads as allowed-reads
-use Rattle.integer.proofs.allowed.Reads as allowed-reads′
 
--- src/lib.rt:78:48
 enum-told : tie.Need-enum-told
 enum-told c = search needs
 
--- src/lib.rt:78:27
 returns : tie.Need-returns
 returns c =
     let a = c .before .before .before .args in
     rw (c .enum-told .given .1) (past-header (length (now (a .source))) (a .at) (a .left) R.Eof (c .before .before .before .pre))
 
--- src/lib.rt:79:43
 enum-told-2 : tie.Need-enum-told-2
 enum-told-2 c = search needs
 
--- src/lib.rt:79:22
 returns-2 : tie.Need-returns-2
 returns-2 c =
     let a = c .before .before .before .args in
     rw (c .enum-told2 .given .1) (past-header (length (now (a .source))) (a .at) (a .left) R.Eof (c .before .before .before .pre))
 
--- src/lib.rt:80:46
 enum-told-3 : tie.Need-enum-told-3
 enum-told-3 c = search needs
 
--- src/lib.rt:80:25
 returns-3 : tie.Need-returns-3
 returns-3 c =
     let a = c .before .before .before .args in
     rw (c .enum-told3 .given .1) (past-header (length (now (a .source))) (a .at) (a .left) R.Eof (c .before .before .before .pre))
 
--- src/lib.rt:82:16
 enum-told-4 : tie.Need-enum-told-4
 enum-told-4 c = search needs
 
--- src/lib.rt:83:17
 returns-4 : tie.Need-returns-4
 returns-4 c =
     let a = c .before .before .before .before .args in
     rw (c .before .enum-told4 .given .1) (past-special (length (now (a .source))) (a .at) (a .left) (a .arg) (c .before .before .before .before .pre) (c .if1 .taken))
 
--- src/lib.rt:85:13
 returns-5 : tie.Need-returns-5
 returns-5 c =
     let a = c .before .before .before .before .args in
     rw (c .before .enum-told4 .given .1) (past-other (length (now (a .source))) (a .at) (a .left) (a .arg) (c .if1 .left))
 
--- src/lib.rt:88:17
 count-of-requires : tie.Need-count-of-requires
 count-of-requires c κs = search needs
 
--- src/lib.rt:89:53
 allowed-requires : tie.Need-allowed-requires
 allowed-requires c κs = search needs
 
--- src/lib.rt:89:13
 skip-number-requires : tie.Need-skip-number-requires
 skip-number-requires c κs = search needs
 
--- src/lib.rt:89:13
 returns-6 : tie.Need-returns-6
 returns-6 c =
     let a = c .before .before .before .before .before .args in
     c .skip-number .ensures
     ∙ integral (length (now (a .source))) (a .at) (a .left) (c .before .before .count-of .result) (c .before .allowed .result) (a .kind) (a .arg) (c .before .before .before .match .keys5) (c .before .before .count-of .ensures .0) (c .before .allowed .ensures)
 
--- src/lib.rt:92:17
 enum-told-5 : tie.Need-enum-told-5
 enum-told-5 c = search needs
 
--- src/lib.rt:92:17
 count-of-requires-2 : tie.Need-count-of-requires-2
 count-of-requires-2 c κs = search needs
 
--- src/lib.rt:93:53
 allowed-requires-2 : tie.Need-allowed-requires-2
 allowed-requires-2 c κs = search needs
 
--- src/lib.rt:93:13
 skip-number-requires-2 : tie.Need-skip-number-requires-2
 skip-number-requires-2 c κs = search needs
 
--- src/lib.rt:93:13
 returns-7 : tie.Need-returns-7
 returns-7 c =
     let a = c .before .before .before .before .before .before .args in
     c .skip-number2 .ensures
     ∙ floating (length (now (a .source))) (a .at) (a .left) (c .before .before .count-of2 .result) (c .before .allowed2 .result) (a .kind) (a .arg) (c .before .before .before .enum-told5 .given .1) (c .before .before .count-of2 .ensures .0) (c .before .allowed2 .ensures)
 
--- src/lib.rt:95:24
 enum-told-6 : tie.Need-enum-told-6
 enum-told-6 c = search needs
 
--- src/lib.rt:95:24
 skip-bytes-requires : tie.Need-skip-bytes-requires
 skip-bytes-requires c κs = search needs
 
--- src/lib.rt:95:24
 returns-8 : tie.Need-returns-8
 returns-8 c =
     let a = c .before .before .before .before .args in

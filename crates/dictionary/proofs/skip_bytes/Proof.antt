@@ -9,30 +9,23 @@ use Rattle.dictionary.proofs.Bodies.{past-over, past-eof, past-whole}
 use borrow.Author.Needs.{needs}
 use Rattle.dictionary.proofs.skip_bytes.Statement.{statement}
 use Rattle.dictionary.proofs.skip_bytes.Tie as tie
-use Rattle.dictionary.proofs.skip_bytes.Reads as reads
-use Rattle.dictionary.proofs.skip_bytes.Lts as lts
 
--- src/lib.rt:62:9
 returns : tie.Need-returns
 returns c =
     let a = c .before .args in
     sym (past-over (length (now (a .source))) (a .at) (a .left) true (a .count) (a .count) R.Eof true (omega arith))
 
--- src/lib.rt:65:16
 sub-room : tie.Need-sub-room
 sub-room c = search needs
 
--- src/lib.rt:67:9
 returns-2 : tie.Need-returns-2
 returns-2 c =
     let a = c .before .before .args in
     sym (past-eof (length (now (a .source))) (a .at) (a .left) true (a .count) (a .count) R.Eof (omega arith) (omega arith))
 
--- src/lib.rt:69:32
 add-t17 : tie.Need-add-t17
 add-t17 c = search needs
 
--- src/lib.rt:69:5
 returns-3 : tie.Need-returns-3
 returns-3 c =
     let a = c .before .before .args in

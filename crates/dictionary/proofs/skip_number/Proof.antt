@@ -10,15 +10,10 @@ use Rattle.dictionary.proofs.Bodies.{past-over, past-unknown, past-eof,
 use borrow.Author.Needs.{needs}
 use Rattle.dictionary.proofs.skip_number.Statement.{statement}
 use Rattle.dictionary.proofs.skip_number.Tie as tie
-use Rattle.dictionary.proofs.skip_number.Reads as reads
-use Rattle.dictionary.proofs.skip_number.Lts as lts
-use Rattle.atom.proofs.in_memory_int_size.Reads as in-memory-int-size-reads
 
--- src/lib.rt:37:9
 in-memory-int-size-requires : tie.Need-in-memory-int-size-requires
 in-memory-int-size-requires c κs = search needs
 
--- src/lib.rt:39:9
 returns : tie.Need-returns
 returns c =
     let a = c .before .before .before .args in
@@ -26,11 +21,9 @@ returns c =
     let e = c .before .in-memory-int-size .ensures in
     rw (← e) (sym (past-over n (a .at) (a .left) false (a .count) (c .before .in-memory-int-size .result) (R.UnsupportedByteCount (a .kind) (a .count)) (a .allowed) (omega arith)))
 
--- src/lib.rt:43:20
 sub-room : tie.Need-sub-room
 sub-room c = search needs
 
--- src/lib.rt:45:13
 returns-2 : tie.Need-returns-2
 returns-2 c =
     let a = c .before .before .before .before .before .args in
@@ -38,11 +31,9 @@ returns-2 c =
     let e = c .before .before .before .in-memory-int-size .ensures in
     rw (← e, c .before .if2 .taken) (sym (past-eof n (a .at) (a .left) false (a .count) (c .before .before .before .in-memory-int-size .result) (R.UnsupportedByteCount (a .kind) (a .count)) (omega arith) (omega arith)))
 
--- src/lib.rt:47:36
 add-t21 : tie.Need-add-t21
 add-t21 c = search needs
 
--- src/lib.rt:47:9
 returns-3 : tie.Need-returns-3
 returns-3 c =
     let a = c .before .before .before .before .before .args in
@@ -50,7 +41,6 @@ returns-3 c =
     let e = c .before .before .before .in-memory-int-size .ensures in
     rw (← e, c .before .if2 .taken) (sym (past-whole n (a .at) (a .left) false (a .count) (c .before .before .before .in-memory-int-size .result) (R.UnsupportedByteCount (a .kind) (a .count)) (omega arith) (omega arith)))
 
--- src/lib.rt:49:5
 returns-4 : tie.Need-returns-4
 returns-4 c =
     let a = c .before .before .before .before .args in
