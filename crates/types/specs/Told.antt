@@ -22,6 +22,12 @@ use Rattle.types.specs.declared.BytesAnswer.{BytesAnswer}
 use Rattle.types.specs.declared.BytesAnswer.the-variants as BA
 use Rattle.types.specs.declared.RawAnswer.{RawAnswer}
 use Rattle.types.specs.declared.RawAnswer.the-variants as RA
+use Rattle.types.specs.declared.Skipped.{Skipped}
+use Rattle.types.specs.declared.Skipped.the-variants as SK
+use Rattle.types.specs.declared.Ran.{Ran}
+use Rattle.types.specs.declared.Ran.the-variants as RN
+use Rattle.types.specs.declared.TallyAnswer.{TallyAnswer}
+use Rattle.types.specs.declared.TallyAnswer.the-variants as TA
 
 -- the number, and the values in the order of the answer's fields
 pub record Told : Type 0 where
@@ -64,3 +70,17 @@ toldBytes (BA.Refused p r) = refused (pos (p .0) ∷ []) r
 abbrev pub toldRaw : RawAnswer → Told
 toldRaw (RA.Read p n) = taken (pos (p .0) ∷ pos n ∷ [])
 toldRaw (RA.Refused p r) = refused (pos (p .0) ∷ []) r
+
+-- the step: a string is told by 1, another atom by 0
+abbrev pub toldSkipped : Skipped → Told
+toldSkipped (SK.Past p b body string) = taken (pos (p .0) ∷ pos (b .0) ∷ pos (body .0) ∷ pos (pick string 1 0) ∷ [])
+toldSkipped (SK.Refused p b r) = refused (pos (p .0) ∷ pos (b .0) ∷ []) r
+
+-- the run: the place where a refused atom starts stands before the refusal's data
+abbrev pub toldRan : Ran → Told
+toldRan (RN.Done p b atoms) = taken (pos (p .0) ∷ pos (b .0) ∷ pos atoms ∷ [])
+toldRan (RN.Stopped p b atoms r start) = refused (pos (p .0) ∷ pos (b .0) ∷ pos atoms ∷ pos (start .0) ∷ []) r
+
+abbrev pub toldTally : TallyAnswer → Told
+toldTally (TA.Stopped start r) = refused (pos (start .0) ∷ []) r
+toldTally (TA.Done t) = taken (pos (t .atoms) ∷ pos (t .body .0) ∷ pos (t .charge) ∷ pos (t .letters) ∷ [])

@@ -187,6 +187,34 @@ pub enum BudgetAnswer {
     Refused(Refusal),
 }
 
+// What the step that builds no value answers: the place after the atom, the budget left, the place where its body starts,
+// and whether it is a string.
+pub enum Skipped {
+    Past(Place, Budget, Place, bool),
+    Refused(Place, Budget, Refusal),
+}
+
+// What a run answers: the place, the budget left and the number of atoms read; of a refused atom also its refusal, and the
+// place where it starts.
+pub enum Ran {
+    Done(Place, Budget, u64),
+    Stopped(Place, Budget, u64, Refusal, Place),
+}
+
+// What a file holds: its atoms, their body bytes, their charges and the letters of their strings.
+pub struct Tallied {
+    pub atoms: u64,
+    pub body: BodyBytes,
+    pub charge: u64,
+    pub letters: u64,
+}
+
+// What a tally answers; of a refused atom, the place where it starts.
+pub enum TallyAnswer {
+    Stopped(Place, Refusal),
+    Done(Tallied),
+}
+
 pub enum AsI8 {
     Value(i8),
     Refused(Refusal),

@@ -1,0 +1,4 @@
+pub mod Bodies
+pub mod Steps
+pub mod Letters
+pub mod Turns

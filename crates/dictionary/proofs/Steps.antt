@@ -1,0 +1,125 @@
+-- The step over a source: where the header is cut, and what follows it; it goes forward and stays within the source, the budget
+-- never rises, and what an atom costs is at most 4/3 of its body.
+use mathlib.Core.Path.{_≡_, refl, _∙_, sym, ap}
+use mathlib.Core.Bool.{Bool, true, false}
+use mathlib.Core.List.{List, []}
+use Prim.Native.Nat.{ℕ, _+_, _-_, _*_, _%_, _^_, _≤_, _<_}
+use native.Mathlib.Omega.{arith}
+use lib.Dec.{ltb, leb, eqb}
+use lib.ListN.{length, drop}
+use borrow.Author.Tests.{le-ltb, le-leb, lt-leb, leb-true, leb-false, eqb-true}
+use Rattle.types.specs.Choice.{pick}
+use Rattle.types.specs.declared.Way.the-variants as W
+use Rattle.types.specs.declared.Kind.{Kind}
+use Rattle.types.specs.declared.Kind.the-variants as K
+use Rattle.types.specs.declared.Place.{Place}
+use Rattle.types.specs.declared.Budget.{Budget}
+use Rattle.types.specs.declared.Refusal.{Refusal}
+use Rattle.types.specs.declared.Refusal.the-variants as R
+use Rattle.types.specs.declared.HeaderAnswer.{HeaderAnswer}
+use Rattle.types.specs.declared.HeaderAnswer.the-variants as H
+use Rattle.types.specs.declared.Skipped.{Skipped}
+use Rattle.types.specs.declared.Skipped.the-variants as SK
+use Rattle.header.specs.Header.{headerFrom, headerRead, headerKind, headerArgument, headerLength}
+use Rattle.header.proofs.Fewest.{length-bounds, argument-word}
+use Rattle.atom.specs.Charges.{countOf, numberCharge}
+use Rattle.atom.specs.Atoms.{atomRead, atomFrom}
+use Rattle.dictionary.specs.Wholes.{known, bodyLength, chargeOf, isString, unknown}
+use Rattle.dictionary.specs.Steps.{forgotten, skipped, bodyPast, bodyAfter}
+use Rattle.dictionary.specs.Runs.{unlimited}
+use Rattle.dictionary.proofs.Bodies.{after-header, past-over, past-unknown, past-eof, past-whole, Passed, passed}
+
+module _ (s : List ℕ) (at : ℕ) (within : at ≤ length s) (budget : Budget) where
+  -- the header is cut: "4 Eof: end of slice", and the budget stays
+  pub step-cut : length s < at + headerLength (drop at s) → skipped s at budget ≡ SK.Refused (record { 0 = length s }) budget R.Eof
+  unfolding skipped atomRead headerFrom
+  step-cut k = simp (le-ltb (length s) at within, lt-leb (at + headerLength (drop at s)) (length s) k)
+
+  header-whole : at + headerLength (drop at s) ≤ length s → headerRead W.ExactLent s at ≡ H.Read (record { 0 = at + headerLength (drop at s) }) (headerKind (drop at s)) (headerArgument (drop at s))
+  unfolding headerFrom
+  header-whole k = simp (le-ltb (length s) at within, le-leb (at + headerLength (drop at s)) (length s) k)
+
+  -- the header is whole: the body follows
+  pub step-body : at + headerLength (drop at s) ≤ length s → skipped s at budget ≡ bodyAfter (length s) (headerKind (drop at s)) (headerArgument (drop at s)) (at + headerLength (drop at s)) (budget .0)
+  unfolding skipped atomRead
+  step-body k =
+      ap (λ (h : HeaderAnswer). forgotten h (atomFrom W.ExactLent s budget [] h)) (header-whole k)
+      ∙ after-header s (headerArgument (drop at s)) (record { 0 = at + headerLength (drop at s) }) budget (headerKind (drop at s)) k
+
+-- what an atom costs is at most 4/3 of its body bytes
+number-price : (count : ℕ) (t u : Bool) → eqb count 3 ≡ t → eqb count 6 ≡ u → 3 * pick t 4 (pick u 8 count) ≤ 4 * count
+number-price count true u a b = omega (arith, eqb-true count 3 a)
+number-price count false true a b = omega (arith, eqb-true count 6 b)
+number-price count false false a b = omega arith
+
+number : (count : ℕ) → 3 * numberCharge count ≤ 4 * count
+number count = number-price count (eqb count 3) (eqb count 6) refl refl
+
+pub price-bound : (kind : Kind) (arg : ℕ) → 3 * chargeOf kind arg ≤ 4 * bodyLength kind arg
+price-bound K.Special arg = omega arith
+price-bound K.Int arg = number (countOf arg)
+price-bound K.UInt arg = number (countOf arg)
+price-bound K.Float arg = number (countOf arg)
+price-bound K.Sequence arg = omega arith
+price-bound K.Map arg = omega arith
+price-bound K.Symbol arg = omega arith
+price-bound K.Bytes arg = omega arith
+
+-- and at most the largest budget
+number-most : (count : ℕ) (t u : Bool) → count ≤ unlimited → pick t 4 (pick u 8 count) ≤ unlimited
+number-most count true u h = omega arith
+number-most count false true h = omega arith
+number-most count false false h = h
+
+count-word : (arg : ℕ) → numberCharge (countOf arg) ≤ unlimited
+count-word arg = number-most (countOf arg) (eqb (countOf arg) 3) (eqb (countOf arg) 6) (low arg)
+  where
+    low : (arg : ℕ) → (arg + 1) % 2 ^ 64 ≤ 0xFFFF_FFFF_FFFF_FFFF
+    low arg = omega arith
+
+pub charge-word : (kind : Kind) (arg : ℕ) → arg < 2 ^ 64 → chargeOf kind arg ≤ unlimited
+charge-word K.Special arg h = omega arith
+charge-word K.Int arg h = count-word arg
+charge-word K.UInt arg h = count-word arg
+charge-word K.Float arg h = count-word arg
+charge-word K.Sequence arg h = omega arith
+charge-word K.Map arg h = omega arith
+charge-word K.Symbol arg h = omega arith
+charge-word K.Bytes arg h = omega arith
+
+-- THE STEP GOES FORWARD: an atom takes a byte at least and never passes the end; the budget never rises
+pub record Forward (s : List ℕ) (at left place rest body : ℕ) : Type 0 where
+  pub takes : at < body
+  pub after : body ≤ place
+  pub inside : place ≤ length s
+  pub falls : rest ≤ left
+  pub costs : 3 * (left - rest) ≤ 4 * (place - body)
+
+forward-body : (s : List ℕ) (at len charge left place rest body b : ℕ) (string t allowed : Bool) → at < b → 3 * charge ≤ 4 * len → Passed (length s) b left string len charge allowed place rest body t → Forward s at left place rest body
+forward-body s at len charge left place rest body b string t allowed h k p =
+    let e = p .ends in
+    let f = p .leaves in
+    let g = p .starts in
+    let i = p .is-whole in
+    let j = p .afforded in
+    record { takes = omega arith; after = omega arith; inside = omega arith; falls = omega arith; costs = omega arith }
+
+module _ (s : List ℕ) (at : ℕ) (within : at ≤ length s) (budget : Budget) (place : Place) (rest : Budget) (body : Place) (t : Bool) where
+  forward-at : (v : Bool) → leb (at + headerLength (drop at s)) (length s) ≡ v → skipped s at budget ≡ SK.Past place rest body t → Forward s at (budget .0) (place .0) (rest .0) (body .0)
+  forward-at false h e =
+      let x = sym e ∙ step-cut s at within budget (leb-false (at + headerLength (drop at s)) (length s) h) in
+      let z : _≡_ {A = ℕ} 0 1 = cc in
+      absurd (no z)
+    where
+      no : _≡_ {A = ℕ} 0 1 → ⊥
+      no z = omega arith
+  forward-at true h e =
+      let l = drop at s in
+      let k = leb-true (at + headerLength l) (length s) h in
+      let x = sym (step-body s at within budget k) ∙ e in
+      let one = length-bounds l .0 in
+      forward-body s at (bodyLength (headerKind l) (headerArgument l)) (chargeOf (headerKind l) (headerArgument l)) (budget .0) (place .0) (rest .0) (body .0) (at + headerLength l) (isString (headerKind l)) t (known (headerKind l) (headerArgument l)) (omega arith) (price-bound (headerKind l) (headerArgument l))
+      (passed (length s) (at + headerLength l) (budget .0) (isString (headerKind l)) (bodyLength (headerKind l) (headerArgument l)) (chargeOf (headerKind l) (headerArgument l)) (unknown (headerKind l) (headerArgument l)) place rest body t (known (headerKind l) (headerArgument l)) x)
+
+  pub forward : skipped s at budget ≡ SK.Past place rest body t → Forward s at (budget .0) (place .0) (rest .0) (body .0)
+  forward e = forward-at (leb (at + headerLength (drop at s)) (length s)) refl e

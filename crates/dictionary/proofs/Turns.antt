@@ -1,0 +1,86 @@
+-- The turns of the run and of the tally, by what the step answers. The run is defined over `read_atom`: the step's answer says
+-- what that was.
+use mathlib.Core.Path.{_≡_, refl, _∙_, sym, ap}
+use mathlib.Core.Bool.{Bool, true, false}
+use mathlib.Core.List.{List, []}
+use Prim.Native.Nat.{ℕ, suc, _+_, _-_, _≤_, _<_}
+use native.Mathlib.Omega.{arith}
+use lib.ListN.{length}
+use borrow.Author.Tests.{lt-ltb, le-ltb}
+use Rattle.types.specs.declared.Way.the-variants as W
+use Rattle.types.specs.declared.Place.{Place}
+use Rattle.types.specs.declared.Budget.{Budget}
+use Rattle.types.specs.declared.Refusal.{Refusal}
+use Rattle.types.specs.declared.HeaderAnswer.{HeaderAnswer}
+use Rattle.types.specs.declared.HeaderAnswer.the-variants as H
+use Rattle.types.specs.declared.AtomAnswer.{AtomAnswer}
+use Rattle.types.specs.declared.AtomAnswer.the-variants as A
+use Rattle.types.specs.declared.Skipped.{Skipped}
+use Rattle.types.specs.declared.Skipped.the-variants as SK
+use Rattle.types.specs.declared.Ran.{Ran}
+use Rattle.types.specs.declared.Ran.the-variants as RN
+use Rattle.types.specs.declared.Tallied.{Tallied}
+use Rattle.types.specs.declared.TallyAnswer.{TallyAnswer}
+use Rattle.types.specs.declared.TallyAnswer.the-variants as TA
+use Rattle.header.specs.Header.{headerRead}
+use Rattle.atom.specs.Atoms.{atomRead}
+use Rattle.dictionary.specs.Steps.{forgotten, skipped}
+use Rattle.dictionary.specs.Runs.{afterAtom, afterStep, runFrom, tallyFrom, added, unlimited}
+
+no : {X : Type 0} → _≡_ {A = ℕ} 0 1 → X
+no z = absurd (never z)
+  where
+    never : _≡_ {A = ℕ} 0 1 → ⊥
+    never z = omega arith
+
+-- what the forgotten value leaves of an atom's read
+module _ {X : Type 0} (on : Place → Budget → X) (stop : Place → Budget → Refusal → X) (place : Place) (rest : Budget) where
+  read-past : (h : HeaderAnswer) (a : AtomAnswer) (body : Place) (t : Bool) → forgotten h a ≡ SK.Past place rest body t → afterAtom a on stop ≡ on place rest
+  read-past (H.Read n k x) (A.Read p b y) body t e = cc
+  read-past (H.Read n k x) (A.Refused p b r) body t e = no (cc)
+  read-past (H.Refused n q) (A.Read p b y) body t e = cc
+  read-past (H.Refused n q) (A.Refused p b r) body t e = no (cc)
+
+  read-refused : (h : HeaderAnswer) (a : AtomAnswer) (why : Refusal) → forgotten h a ≡ SK.Refused place rest why → afterAtom a on stop ≡ stop place rest why
+  read-refused (H.Read n k x) (A.Read p b y) why e = no (cc)
+  read-refused (H.Read n k x) (A.Refused p b r) why e = cc
+  read-refused (H.Refused n q) (A.Read p b y) why e = no (cc)
+  read-refused (H.Refused n q) (A.Refused p b r) why e = cc
+
+  pub atom-past : (s : List ℕ) (at : ℕ) (budget : Budget) (body : Place) (t : Bool) → skipped s at budget ≡ SK.Past place rest body t → afterAtom (atomRead W.ExactLent s at budget []) on stop ≡ on place rest
+  unfolding skipped
+  atom-past s at budget body t e = read-past (headerRead W.ExactLent s at) (atomRead W.ExactLent s at budget []) body t e
+
+  pub atom-refused : (s : List ℕ) (at : ℕ) (budget : Budget) (why : Refusal) → skipped s at budget ≡ SK.Refused place rest why → afterAtom (atomRead W.ExactLent s at budget []) on stop ≡ stop place rest why
+  unfolding skipped
+  atom-refused s at budget why e = read-refused (headerRead W.ExactLent s at) (atomRead W.ExactLent s at budget []) why e
+
+-- a turn of the run
+module _ (s : List ℕ) (fuel left at : ℕ) (budget : Budget) (atoms : ℕ) (enough : fuel ≡ suc left) where
+  pub run-on : (place : Place) (rest : Budget) (body : Place) (t : Bool) → at < length s → skipped s at budget ≡ SK.Past place rest body t → runFrom fuel s at budget atoms ≡ runFrom left s (place .0) rest (atoms + 1)
+  unfolding runFrom
+  run-on place rest body t h e =
+      rw (enough, lt-ltb at (length s) h) (atom-past (λ p b. runFrom left s (p .0) b (atoms + 1)) (λ p b r. RN.Stopped p b atoms r (record { 0 = at })) place rest s at budget body t e)
+
+  pub run-stop : (place : Place) (rest : Budget) (why : Refusal) → at < length s → skipped s at budget ≡ SK.Refused place rest why → runFrom fuel s at budget atoms ≡ RN.Stopped place rest atoms why (record { 0 = at })
+  unfolding runFrom
+  run-stop place rest why h e =
+      rw (enough, lt-ltb at (length s) h) (atom-refused (λ p b. runFrom left s (p .0) b (atoms + 1)) (λ p b r. RN.Stopped p b atoms r (record { 0 = at })) place rest s at budget why e)
+
+  pub run-end : length s ≤ at → runFrom fuel s at budget atoms ≡ RN.Done (record { 0 = at }) budget atoms
+  unfolding runFrom
+  run-end h = rw (enough, le-ltb at (length s) h) refl
+
+-- a turn of the tally
+module _ (s : List ℕ) (fuel left at : ℕ) (t : Tallied) (enough : fuel ≡ suc left) where
+  pub tally-on : (place : Place) (rest : Budget) (body : Place) (string : Bool) → at < length s → skipped s at (record { 0 = unlimited }) ≡ SK.Past place rest body string → tallyFrom fuel s at t ≡ tallyFrom left s (place .0) (added s t (place .0) (rest .0) (body .0) string)
+  unfolding tallyFrom
+  tally-on place rest body string h e = rw (enough, lt-ltb at (length s) h, e) refl
+
+  pub tally-stop : (place : Place) (rest : Budget) (why : Refusal) → at < length s → skipped s at (record { 0 = unlimited }) ≡ SK.Refused place rest why → tallyFrom fuel s at t ≡ TA.Stopped (record { 0 = at }) why
+  unfolding tallyFrom
+  tally-stop place rest why h e = rw (enough, lt-ltb at (length s) h, e) refl
+
+  pub tally-end : length s ≤ at → tallyFrom fuel s at t ≡ TA.Done t
+  unfolding tallyFrom
+  tally-end h = rw (enough, le-ltb at (length s) h) refl

@@ -1,0 +1,128 @@
+-- `dictionary::tally` meets its contract: a turn of the loop is a turn of the definition. The sums are bounded by the bytes
+-- passed, of which there are at most 16,777,216, so that none wraps; the bytes left are the measure.
+use Prim.Native.Nat.{ℕ, suc, _≤_, _<_, _-_, _+_, _*_}
+use mathlib.Core.Path.{_≡_, _∙_, sym, ap}
+use native.Mathlib.Omega.{arith}
+use borrow.Author.Needs.{needs}
+use borrow.Author.Tests.{lt-ltb, le-ltb}
+use denote.Ref.{now}
+use lib.ListN.{length}
+use Rattle.types.specs.declared.Tallied.{Tallied}
+use Rattle.dictionary.specs.Runs.{tallyFrom, nothing, unlimited}
+use Rattle.dictionary.proofs.Steps.{Forward, forward}
+use Rattle.dictionary.proofs.Turns.{tally-on, tally-stop, tally-end}
+use Rattle.dictionary.proofs.tally.Statement.{statement}
+use Rattle.dictionary.proofs.tally.Tie as tie
+
+abbrev Inv-loop : tie.InvT-loop
+Inv-loop source atoms₀ body₀ charge₀ letters₀ at₀ atoms body charge letters at = (at ≤ length source) × (atoms ≤ at) × (body ≤ at) × (3 * charge ≤ 4 * body) × (letters ≤ at) × (tallyFrom (suc (length source) - atoms) source at (record { atoms = atoms; body = record { 0 = body }; charge = charge; letters = letters }) ≡ tallyFrom (suc (length source)) source 0 nothing)
+
+abbrev μ-loop : tie.MeasureT-loop
+μ-loop source atoms₀ body₀ charge₀ letters₀ at₀ atoms body charge letters at = length source - at
+
+-- an atom that the step passed
+went : (c : tie.After-known-told Inv-loop μ-loop) → Forward (now (c .before .before .before .before .before .before .before .before .args .source)) (c .before .before .before .before .before .loop .at) unlimited (c .before .place .given .0 .0 .0) (c .before .place .given .0 .1 .0 .0) (c .before .place .given .0 .1 .1 .0 .0)
+went c =
+    let s = now (c .before .before .before .before .before .before .before .before .args .source) in
+    let l = c .before .before .before .before .before .loop in
+    let g = c .before .place .given in
+    let e = sym (c .before .before .before .skip-atom .ensures) ∙ g .1 in
+    forward s (l .at) (l .inv .0) (record { 0 = unlimited }) (g .0 .0) (g .0 .1 .0) (g .0 .1 .1 .0) (g .0 .1 .1 .1 .0) e
+
+returns : tie.Need-returns Inv-loop μ-loop
+returns c = simp (lt-ltb _ _ (c .if1 .taken))
+
+loop-holds : tie.Need-loop-holds Inv-loop μ-loop
+loop-holds c =
+    let s = now (c .before .before .args .source) in
+    let z : suc (length s) - 0 ≡ suc (length s) = omega arith in
+    (search needs, search needs, search needs, search needs, search needs, ap (λ (f : ℕ). tallyFrom f s 0 nothing) z)
+
+skip-atom-requires : tie.Need-skip-atom-requires Inv-loop μ-loop
+skip-atom-requires c κs = search needs
+
+enum-known-place : tie.Need-enum-known-place Inv-loop μ-loop
+enum-known-place c = search needs
+
+add-atoms : tie.Need-add-atoms Inv-loop μ-loop
+add-atoms c = search needs
+
+sub-body : tie.Need-sub-body Inv-loop μ-loop
+sub-body c = let k = went c in omega arith
+
+add-body : tie.Need-add-body Inv-loop μ-loop
+add-body c = let k = went c in omega arith
+
+sub-charge : tie.Need-sub-charge Inv-loop μ-loop
+sub-charge c = let k = went (c .before) in omega arith
+
+add-charge : tie.Need-add-charge Inv-loop μ-loop
+add-charge c = let k = went (c .before) in omega arith
+
+letters-of-requires : tie.Need-letters-of-requires Inv-loop μ-loop
+letters-of-requires c κs = let k = went (c .before) in (k .after, k .inside)
+
+add-letters : tie.Need-add-letters Inv-loop μ-loop
+add-letters c = let k = went (c .before .before) in omega (arith, c .letters-of .ensures .1)
+
+loop-less : tie.Need-loop-less Inv-loop μ-loop
+loop-less c = let k = went (c .before .before) in omega arith
+
+loop-again : tie.Need-loop-again Inv-loop μ-loop
+loop-again c =
+    let s = now (c .before .before .before .before .before .before .before .before .before .before .args .source) in
+    let l = c .before .before .before .before .before .before .before .loop in
+    let g = c .before .before .before .place .given in
+    let k = went (c .before .before) in
+    let e = sym (c .before .before .before .before .before .skip-atom .ensures) ∙ g .1 in
+    let n = c .letters-of .ensures in
+    let t : Tallied = record { atoms = l .atoms; body = record { 0 = l .body }; charge = l .charge; letters = l .letters } in (
+      omega arith,
+      omega arith,
+      omega arith,
+      omega arith,
+      omega (arith, n .1),
+      ap (λ (x : ℕ). tallyFrom (suc (length s) - (l .atoms + 1)) s (g .0 .0 .0) (record { atoms = l .atoms + 1; body = record { 0 = l .body + (g .0 .0 .0 - g .0 .1 .1 .0 .0) }; charge = l .charge + (unlimited - g .0 .1 .0 .0); letters = l .letters + x })) (n .0)
+          ∙ sym (tally-on s (suc (length s) - l .atoms) (suc (length s) - (l .atoms + 1)) (l .at) t (omega arith) (g .0 .0) (g .0 .1 .0) (g .0 .1 .1 .0) (g .0 .1 .1 .1 .0) (c .before .before .before .before .before .before .loop-test .taken) e)
+          ∙ l .inv .5,
+    )
+
+enum-known-refusal : tie.Need-enum-known-refusal Inv-loop μ-loop
+enum-known-refusal c = search needs
+
+returns-2 : tie.Need-returns-2 Inv-loop μ-loop
+returns-2 c =
+    let s = now (c .before .before .before .before .before .before .before .before .args .source) in
+    let l = c .before .before .before .before .before .loop in
+    let g = c .before .refusal .given in
+    let e = sym (c .before .before .before .skip-atom .ensures) ∙ g .1 in
+    rw (le-ltb _ _ (c .before .before .before .before .before .before .if1 .left)) (sym (tally-stop s (suc (length s) - l .atoms) (length s - l .atoms) (l .at) (record { atoms = l .atoms; body = record { 0 = l .body }; charge = l .charge; letters = l .letters }) (omega arith) (g .0 .0) (g .0 .1 .0) (g .0 .1 .1 .0) (c .before .before .before .before .loop-test .taken) e) ∙ l .inv .5)
+
+returns-3 : tie.Need-returns-3 Inv-loop μ-loop
+returns-3 c =
+    let s = now (c .before .before .before .before .args .source) in
+    let l = c .before .loop in
+    rw (le-ltb _ _ (c .before .before .if1 .left)) (sym (tally-end s (suc (length s) - l .atoms) (length s - l .atoms) (l .at) (record { atoms = l .atoms; body = record { 0 = l .body }; charge = l .charge; letters = l .letters }) (omega arith) (omega arith)) ∙ l .inv .5)
+
+pub tally-spec : {M : Type 1} → statement M
+tally-spec =
+    tie.close
+    (tie.spec
+    Inv-loop
+    μ-loop
+    returns
+    loop-holds
+    skip-atom-requires
+    enum-known-place
+    add-atoms
+    sub-body
+    add-body
+    sub-charge
+    add-charge
+    letters-of-requires
+    add-letters
+    loop-less
+    loop-again
+    enum-known-refusal
+    returns-2
+    returns-3)

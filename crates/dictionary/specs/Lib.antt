@@ -1,0 +1,4 @@
+pub mod Letters
+pub mod Wholes
+pub mod Steps
+pub mod Runs
