@@ -206,3 +206,33 @@ impl<'a> SliceReader<'a> {
         }
     }
 }
+
+impl<'a> IntegerRead<'a> {
+    // The slice still to be read after an integer.
+    pub fn rest(self) -> &'a [u8]
+        ensures { λ r. ⌜ r ≡ self .entry .reader .«data» ⌝ }
+    {
+        self.reader.data
+    }
+}
+
+// The bytes that a reader of the whole slice has to read.
+pub fn len_of(data: &[u8]) -> usize
+    ensures { λ r. ⌜ r ≡ length (now («data» .entry)) ⌝ }
+{
+    SliceReader::from(data).len()
+}
+
+// Whether a reader of the whole slice has nothing to read.
+pub fn is_empty_of(data: &[u8]) -> bool
+    ensures { λ r. ⌜ r ≡ eqb (length (now («data» .entry))) 0 ⌝ }
+{
+    SliceReader::from(data).is_empty()
+}
+
+// The slice that a reader has still to read once it has read an integer.
+pub fn rest_after_integer(data: &[u8], kind: Kind, count: u64) -> &[u8]
+    ensures { λ r. ⌜ LeftOf («data» .entry) (integerPlace (integerGiven (now («data» .entry)) kind count)) r ⌝ }
+{
+    SliceReader::from(data).read_integer(kind, count).rest()
+}
