@@ -11,5 +11,7 @@ pub mod Writers
 pub mod Float
 pub mod FloatCast
 pub mod Atom
+pub mod Dictionary
+pub mod SliceReader
 pub mod Demand2
 pub mod Starred
