@@ -1,0 +1,397 @@
+-- THE PRICE OF A FILE IS EXACT (demand 3): what the tally and the run answer of a list of whole, known atoms; and what the tally
+-- answers of every other input. It rests on the step at one atom, by induction over the list.
+use mathlib.Core.Path.{_≡_, refl, _∙_, sym, ap, subst}
+use mathlib.Core.Bool.{Bool, true, false}
+use mathlib.Core.List.{List, [], _∷_, _++_, append-assoc, append-nil}
+use mathlib.Core.Logic.{_⊎_, inl, inr, ⊎-elim}
+use Prim.Native.Nat.{ℕ, zero, suc, _+_, _-_, _*_, _≤_, _<_}
+use native.Mathlib.Omega.{arith}
+use lib.Dec.{ltb, leb}
+use lib.ListN.{length, take, drop, length-append, length-take, length-drop, take-append-drop}
+use lib.Seq.{drop-append-seam, length-take-le}
+use borrow.Author.Tests.{le-ltb, ltb-true, ltb-false, leb-true, leb-false}
+use Rattle.types.specs.Choice.{pick}
+use Rattle.types.specs.declared.Place.{Place}
+use Rattle.types.specs.declared.Budget.{Budget}
+use Rattle.types.specs.declared.Refusal.{Refusal}
+use Rattle.types.specs.declared.Refusal.the-variants as R
+use Rattle.types.specs.declared.Ran.{Ran}
+use Rattle.types.specs.declared.Ran.the-variants as RN
+use Rattle.types.specs.declared.Tallied.{Tallied}
+use Rattle.types.specs.declared.TallyAnswer.{TallyAnswer}
+use Rattle.types.specs.declared.TallyAnswer.the-variants as TA
+use Rattle.header.specs.Header.{headerKind, headerArgument, headerLength}
+use Rattle.types.specs.declared.Kind.{Kind}
+use Rattle.header.proofs.Fewest.{length-bounds}
+use Rattle.dictionary.specs.Wholes.{known, bodyLength, isString, unknown, IsAtom, price, bodyBytes, lettersIn, Atoms, none, more, total, Spoilt, cut-header, not-known, cut-body}
+use Rattle.dictionary.specs.Runs.{runFrom, runAll, tallyFrom, tallyAll, nothing, mostBytes, unlimited, added}
+use Rattle.dictionary.proofs.Steps.{price-bound}
+use Rattle.dictionary.proofs.Turns.{run-on, run-stop, run-end, tally-on, tally-stop, tally-end}
+use Rattle.dictionary.proofs.Fronts.{Front, front, front-grows}
+use Rattle.dictionary.proofs.Wholes.{price-word, atom-some, atom-within, atom-next, atom-past, atom-over, plus, added-plus, Refuses, spoilt-refuses}
+
+-- atoms never outnumber bytes
+pub atoms-most : {l : List ℕ} {atoms : List (List ℕ)} → Atoms l atoms → length atoms ≤ length l
+atoms-most none = omega arith
+atoms-most (more {atom} {rest} w r) = let i = atoms-most r in let one = atom-some atom w in omega (arith, length-append atom rest)
+
+-- 3C is at most 4 times the body bytes
+three-four : (p q b c : ℕ) → 3 * p ≤ 4 * b → 3 * q ≤ 4 * c → 3 * (p + q) ≤ 4 * (b + c)
+three-four p q b c h k = omega arith
+
+pub price-body : (atoms : List (List ℕ)) → 3 * total price atoms ≤ 4 * total bodyBytes atoms
+unfolding total
+price-body [] = omega arith
+price-body (atom ∷ atoms) = three-four (price atom) (total price atoms) (bodyBytes atom) (total bodyBytes atoms) (price-bound (headerKind atom) (headerArgument atom)) (price-body atoms)
+
+-- THE TALLY passes over whole, known atoms, and adds what each has
+unfoldable summed : Tallied → List (List ℕ) → Tallied
+summed t [] = t
+summed t (atom ∷ atoms) = summed (plus t atom) atoms
+
+regroup : (s : List ℕ) (at : ℕ) (a b c : List ℕ) → drop at s ≡ (a ++ b) ++ c → drop at s ≡ a ++ (b ++ c)
+regroup s at a b c h = h ∙ append-assoc a b c
+
+further : (at n m : ℕ) → at + (n + m) ≡ at + n + m
+further at n m = omega arith
+
+tally-over : (s : List ℕ) {l : List ℕ} {atoms : List (List ℕ)} → Atoms l atoms → (after : List ℕ) (fuel left at end : ℕ) (t : Tallied) → fuel ≡ length atoms + left → end ≡ at + length l → at ≤ length s → drop at s ≡ l ++ after → tallyFrom fuel s at t ≡ tallyFrom left s end (summed t atoms)
+unfolding summed
+tally-over s none after fuel left at end t f e within here =
+    let a : fuel ≡ left = omega arith in
+    let b : at ≡ end = omega arith in
+    ap (λ (x : ℕ). tallyFrom x s at t) a ∙ ap (λ (x : ℕ). tallyFrom left s x t) b
+tally-over s (more {atom} {rest} {atoms} w r) after fuel left at end t f e within here =
+    let there : drop at s ≡ atom ++ (rest ++ after) = regroup s at atom rest after here in
+    let inside = atom-within s at within atom (rest ++ after) there w in
+    let one = atom-some atom w in
+    let g : fuel ≡ suc (length atoms + left) = omega arith in
+    let n : end ≡ at + length atom + length rest = e ∙ ap (λ (x : ℕ). at + x) (length-append atom rest) ∙ further at (length atom) (length rest) in
+    tally-on s fuel (length atoms + left) at t g (record { 0 = at + length atom }) (record { 0 = unlimited - price atom }) (record { 0 = at + headerLength atom }) (isString (headerKind atom)) (omega arith) (atom-past s at within atom (rest ++ after) there w (record { 0 = unlimited }) (price-word atom))
+    ∙ ap (tallyFrom (length atoms + left) s (at + length atom)) (added-plus s at atom (rest ++ after) there w t)
+    ∙ tally-over s r after (length atoms + left) left (at + length atom) end (plus t atom) refl n inside (atom-next s at within atom (rest ++ after) there w)
+
+-- what it adds up to
+abbrev tallied : ℕ → ℕ → ℕ → ℕ → Tallied
+tallied a b c l = record { atoms = a; body = record { 0 = b }; charge = c; letters = l }
+
+same-tallied : {a a′ b b′ c c′ l l′ : ℕ} → a ≡ a′ → b ≡ b′ → c ≡ c′ → l ≡ l′ → tallied a b c l ≡ tallied a′ b′ c′ l′
+same-tallied {a} {a′} {b} {b′} {c} {c′} {l} {l′} p q r s =
+    ap (λ (x : ℕ). tallied x b c l) p ∙ ap (λ (x : ℕ). tallied a′ x c l) q ∙ ap (λ (x : ℕ). tallied a′ b′ x l) r ∙ ap (tallied a′ b′ c′) s
+
+summed-total : (a b c l : ℕ) (atoms : List (List ℕ)) → summed (tallied a b c l) atoms ≡ tallied (a + length atoms) (b + total bodyBytes atoms) (c + total price atoms) (l + total lettersIn atoms)
+unfolding summed total
+summed-total a b c l [] = same-tallied (zeroed a) (zeroed b) (zeroed c) (zeroed l)
+  where
+    zeroed : (n : ℕ) → n ≡ n + 0
+    zeroed n = omega arith
+summed-total a b c l (atom ∷ atoms) =
+    summed-total (a + 1) (b + bodyBytes atom) (c + price atom) (l + lettersIn atom) atoms
+    ∙ same-tallied (counted a (length atoms)) (grouped b (bodyBytes atom) (total bodyBytes atoms)) (grouped c (price atom) (total price atoms)) (grouped l (lettersIn atom) (total lettersIn atoms))
+  where
+    grouped : (n m k : ℕ) → n + m + k ≡ n + (m + k)
+    grouped n m k = omega arith
+
+    counted : (n k : ℕ) → n + 1 + k ≡ n + suc k
+    counted n k = omega arith
+
+-- what it answers of such a list
+abbrev pub priced : List (List ℕ) → Tallied
+priced atoms = tallied (length atoms) (total bodyBytes atoms) (total price atoms) (total lettersIn atoms)
+
+summed-all : (atoms : List (List ℕ)) → summed nothing atoms ≡ priced atoms
+summed-all atoms = summed-total 0 0 0 0 atoms ∙ same-tallied (none-yet (length atoms)) (none-yet (total bodyBytes atoms)) (none-yet (total price atoms)) (none-yet (total lettersIn atoms))
+  where
+    none-yet : (n : ℕ) → 0 + n ≡ n
+    none-yet n = omega arith
+
+fuel-left : (n m : ℕ) → n ≤ m → suc m ≡ n + suc (m - n)
+fuel-left n m h = omega arith
+
+-- 1: THE TALLY ANSWERS C, the number of atoms, the body bytes and the letters
+pub tally-priced : (s : List ℕ) (atoms : List (List ℕ)) → length s ≤ mostBytes → Atoms s atoms → tallyAll s ≡ TA.Done (priced atoms)
+tally-priced s atoms short w =
+    let most = atoms-most w in
+    let there : s ≡ s ++ [] = sym (append-nil s) in
+    let e : length s ≡ 0 + length s = omega arith in
+    rw (le-ltb mostBytes (length s) short)
+    (tally-over s w [] (suc (length s)) (suc (length s - length atoms)) 0 (length s) nothing (fuel-left (length atoms) (length s) most) e (omega arith) there
+    ∙ tally-end s (suc (length s - length atoms)) (length s - length atoms) (length s) (summed nothing atoms) refl (omega arith)
+    ∙ ap TA.Done (summed-all atoms))
+
+-- THE RUN passes over whole, known atoms whose charges the budget covers
+less : (b p q : ℕ) → p + q ≤ b → q ≤ b - p
+less b p q h = omega arith
+
+run-over : (s : List ℕ) {l : List ℕ} {atoms : List (List ℕ)} → Atoms l atoms → (after : List ℕ) (fuel left at end budget spare n m : ℕ) → fuel ≡ length atoms + left → end ≡ at + length l → total price atoms ≤ budget → spare ≡ budget - total price atoms → m ≡ n + length atoms → at ≤ length s → drop at s ≡ l ++ after → runFrom fuel s at (record { 0 = budget }) n ≡ runFrom left s end (record { 0 = spare }) m
+unfolding total
+run-over s none after fuel left at end budget spare n m f e c d k within here =
+    let x : fuel ≡ left = omega arith in
+    let y : at ≡ end = omega arith in
+    let z : budget ≡ spare = omega arith in
+    let w : n ≡ m = omega arith in
+    ap (λ (i : ℕ). runFrom i s at (record { 0 = budget }) n) x
+    ∙ ap (λ (i : ℕ). runFrom left s i (record { 0 = budget }) n) y
+    ∙ ap (λ (i : ℕ). runFrom left s end (record { 0 = i }) n) z
+    ∙ ap (runFrom left s end (record { 0 = spare })) w
+run-over s (more {atom} {rest} {atoms} w r) after fuel left at end budget spare n m f e c d k within here =
+    let there : drop at s ≡ atom ++ (rest ++ after) = regroup s at atom rest after here in
+    let inside = atom-within s at within atom (rest ++ after) there w in
+    let one = atom-some atom w in
+    let g : fuel ≡ suc (length atoms + left) = omega arith in
+    let i : end ≡ at + length atom + length rest = e ∙ ap (λ (x : ℕ). at + x) (length-append atom rest) ∙ further at (length atom) (length rest) in
+    run-on s fuel (length atoms + left) at (record { 0 = budget }) n g (record { 0 = at + length atom }) (record { 0 = budget - price atom }) (record { 0 = at + headerLength atom }) (isString (headerKind atom)) (omega arith) (atom-past s at within atom (rest ++ after) there w (record { 0 = budget }) (first (price atom) (total price atoms) budget c))
+    ∙ run-over s r after (length atoms + left) left (at + length atom) end (budget - price atom) spare (n + 1) m refl i (less budget (price atom) (total price atoms) c) (d ∙ apart budget (price atom) (total price atoms)) (k ∙ counted n (length atoms)) inside (atom-next s at within atom (rest ++ after) there w)
+  where
+    first : (p q b : ℕ) → p + q ≤ b → p ≤ b
+    first p q b h = omega arith
+
+    apart : (b p q : ℕ) → b - (p + q) ≡ b - p - q
+    apart b p q = omega arith
+
+    counted : (n k : ℕ) → n + suc k ≡ n + 1 + k
+    counted n k = omega arith
+
+-- 2: A RUN WITH A BUDGET OF AT LEAST C reads them all, and leaves the budget less C
+pub run-priced : (s : List ℕ) (atoms : List (List ℕ)) (budget : ℕ) → Atoms s atoms → total price atoms ≤ budget → runAll s (record { 0 = budget }) ≡ RN.Done (record { 0 = length s }) (record { 0 = budget - total price atoms }) (length atoms)
+run-priced s atoms budget w c =
+    let most = atoms-most w in
+    let e : length s ≡ 0 + length s = omega arith in
+    let k : length atoms ≡ 0 + length atoms = omega arith in
+    run-over s w [] (suc (length s)) (suc (length s - length atoms)) 0 (length s) budget (budget - total price atoms) 0 (length atoms) (fuel-left (length atoms) (length s) most) e c refl k (omega arith) (sym (append-nil s))
+    ∙ run-end s (suc (length s - length atoms)) (length s - length atoms) (length s) (record { 0 = budget - total price atoms }) (length atoms) refl (omega arith)
+
+-- 3: A RUN WITH A SMALLER BUDGET is refused with 5 at the first atom whose running sum passes it, with the budget less the
+-- earlier charges left, at that atom's start
+pub record Short (ran : Ran) (budget at n : ℕ) (atoms : List (List ℕ)) : Type 0 where
+  pub before : List (List ℕ)
+  pub atom : List ℕ
+  pub after : List (List ℕ)
+  pub split : atoms ≡ before ++ (atom ∷ after)
+  pub covered : total price before ≤ budget
+  pub passes : budget < total price before + price atom
+  pub stops : ran ≡ RN.Stopped (record { 0 = at + total length before + headerLength atom }) (record { 0 = budget - total price before }) (n + length before) R.TooManyBytesRead (record { 0 = at + total length before })
+
+same-stop : {p p′ b b′ n n′ q q′ : ℕ} → p ≡ p′ → b ≡ b′ → n ≡ n′ → q ≡ q′ → RN.Stopped (record { 0 = p }) (record { 0 = b }) n R.TooManyBytesRead (record { 0 = q }) ≡ RN.Stopped (record { 0 = p′ }) (record { 0 = b′ }) n′ R.TooManyBytesRead (record { 0 = q′ })
+same-stop {p} {p′} {b} {b′} {n} {n′} {q} {q′} w x y z =
+    ap (λ (i : ℕ). RN.Stopped (record { 0 = i }) (record { 0 = b }) n R.TooManyBytesRead (record { 0 = q })) w
+    ∙ ap (λ (i : ℕ). RN.Stopped (record { 0 = p′ }) (record { 0 = i }) n R.TooManyBytesRead (record { 0 = q })) x
+    ∙ ap (λ (i : ℕ). RN.Stopped (record { 0 = p′ }) (record { 0 = b′ }) i R.TooManyBytesRead (record { 0 = q })) y
+    ∙ ap (λ (i : ℕ). RN.Stopped (record { 0 = p′ }) (record { 0 = b′ }) n′ R.TooManyBytesRead (record { 0 = i })) z
+
+-- the first atom passes it
+short-here : (ran : Ran) (budget at n : ℕ) (atom : List ℕ) (atoms : List (List ℕ)) → budget < price atom → ran ≡ RN.Stopped (record { 0 = at + headerLength atom }) (record { 0 = budget }) n R.TooManyBytesRead (record { 0 = at }) → Short ran budget at n (atom ∷ atoms)
+unfolding total
+short-here ran budget at n atom atoms h e = record {
+  before = [];
+  atom = atom;
+  after = atoms;
+  split = refl;
+  covered = omega arith;
+  passes = first (price atom) budget h;
+  stops = e ∙ same-stop (place at (headerLength atom)) (left budget) (plain n) (plain at);
+}
+  where
+    first : (p b : ℕ) → b < p → b < 0 + p
+    first p b h = omega arith
+
+    place : (at h : ℕ) → at + h ≡ at + 0 + h
+    place at h = omega arith
+
+    left : (b : ℕ) → b ≡ b - 0
+    left b = omega arith
+
+    plain : (n : ℕ) → n ≡ n + 0
+    plain n = omega arith
+
+-- a later one does
+short-later : (ran ran′ : Ran) (budget at n : ℕ) (atom : List ℕ) (atoms : List (List ℕ)) → price atom ≤ budget → ran ≡ ran′ → Short ran′ (budget - price atom) (at + length atom) (n + 1) atoms → Short ran budget at n (atom ∷ atoms)
+unfolding total
+short-later ran ran′ budget at n atom atoms h e r = record {
+  before = atom ∷ r .before;
+  atom = r .atom;
+  after = r .after;
+  split = ap (λ (l : List (List ℕ)). atom ∷ l) (r .split);
+  covered = back (price atom) (total price (r .before)) budget h (r .covered);
+  passes = still (price atom) (total price (r .before)) (price (r .atom)) budget h (r .passes);
+  stops = e ∙ r .stops ∙ same-stop (place at (length atom) (total length (r .before)) (headerLength (r .atom))) (left budget (price atom) (total price (r .before))) (counted n (length (r .before))) (start at (length atom) (total length (r .before)));
+}
+  where
+    back : (p q b : ℕ) → p ≤ b → q ≤ b - p → p + q ≤ b
+    back p q b h k = omega arith
+
+    still : (p q a b : ℕ) → p ≤ b → b - p < q + a → b < p + q + a
+    still p q a b h k = omega arith
+
+    place : (at n m h : ℕ) → at + n + m + h ≡ at + (n + m) + h
+    place at n m h = omega arith
+
+    left : (b p q : ℕ) → b - p - q ≡ b - (p + q)
+    left b p q = omega arith
+
+    counted : (n k : ℕ) → n + 1 + k ≡ n + suc k
+    counted n k = omega arith
+
+    start : (at n m : ℕ) → at + n + m ≡ at + (n + m)
+    start at n m = omega arith
+
+run-short-at : (s : List ℕ) {l : List ℕ} {atoms : List (List ℕ)} → Atoms l atoms → (fuel at budget n : ℕ) → length l < fuel → budget < total price atoms → at ≤ length s → drop at s ≡ l → Short (runFrom fuel s at (record { 0 = budget }) n) budget at n atoms
+unfolding total
+run-short-at s none fuel at budget n f c within here = absurd (never budget c)
+  where
+    never : (b : ℕ) → b < 0 → ⊥
+    never b h = omega arith
+run-short-at s (more {atom} {rest} {atoms} w r) fuel at budget n f c within here =
+    by (λ h. run-short-at s r (fuel - 1) (at + length atom) (budget - price atom) (n + 1) shorter (under (price atom) (total price atoms) budget h c) inside (atom-next s at within atom rest here w)) (ltb budget (price atom)) refl
+  where
+    one : 1 ≤ length atom
+    one = atom-some atom w
+
+    inside : at + length atom ≤ length s
+    inside = atom-within s at within atom rest here w
+
+    enough : fuel ≡ suc (fuel - 1)
+    enough = let i = f in omega arith
+
+    shorter : length rest < fuel - 1
+    shorter = omega (arith, f, one, length-append atom rest)
+
+    going : at < length s
+    going = omega (arith, one, inside)
+
+    under : (p q b : ℕ) → p ≤ b → b < p + q → b - p < q
+    under p q b h k = omega arith
+
+    by : (price atom ≤ budget → Short (runFrom (fuel - 1) s (at + length atom) (record { 0 = budget - price atom }) (n + 1)) (budget - price atom) (at + length atom) (n + 1) atoms) → (t : Bool) → ltb budget (price atom) ≡ t → Short (runFrom fuel s at (record { 0 = budget }) n) budget at n (atom ∷ atoms)
+    by later true e =
+        short-here (runFrom fuel s at (record { 0 = budget }) n) budget at n atom atoms (ltb-true budget (price atom) e)
+        (run-stop s fuel (fuel - 1) at (record { 0 = budget }) n enough (record { 0 = at + headerLength atom }) (record { 0 = budget }) R.TooManyBytesRead going (atom-over s at within atom rest here w (record { 0 = budget }) (ltb-true budget (price atom) e)))
+    by later false e =
+        let h = ltb-false budget (price atom) e in
+        short-later (runFrom fuel s at (record { 0 = budget }) n) (runFrom (fuel - 1) s (at + length atom) (record { 0 = budget - price atom }) (n + 1)) budget at n atom atoms h
+        (run-on s fuel (fuel - 1) at (record { 0 = budget }) n enough (record { 0 = at + length atom }) (record { 0 = budget - price atom }) (record { 0 = at + headerLength atom }) (isString (headerKind atom)) going (atom-past s at within atom rest here w (record { 0 = budget }) h))
+        (later h)
+
+pub run-short : (s : List ℕ) (atoms : List (List ℕ)) (budget : ℕ) → Atoms s atoms → budget < total price atoms → Short (runAll s (record { 0 = budget })) budget 0 0 atoms
+run-short s atoms budget w c = run-short-at s w (suc (length s)) 0 budget 0 (omega arith) c (omega arith) refl
+
+-- EVERY OTHER INPUT: whole, known atoms up to one that is not
+pub record Broken (s : List ℕ) : Type 0 where
+  pub front-bytes : List ℕ
+  pub rest : List ℕ
+  pub atoms : List (List ℕ)
+  pub why : Refusal
+  pub wholes : Atoms front-bytes atoms
+  pub joined : s ≡ front-bytes ++ rest
+  pub some : 1 ≤ length rest
+  pub spoilt : Spoilt rest why
+
+pub record Made (s : List ℕ) : Type 0 where
+  pub atoms : List (List ℕ)
+  pub wholes : Atoms s atoms
+
+-- the tally refuses there, with that atom's own refusal
+broken-at : (s front rest : List ℕ) (atoms : List (List ℕ)) (why : Refusal) → length s ≤ mostBytes → Atoms front atoms → s ≡ front ++ rest → 1 ≤ length rest → Spoilt rest why → tallyAll s ≡ TA.Stopped (record { 0 = length front }) why
+broken-at s front rest atoms why short w e some bad =
+    let n : length s ≡ length front + length rest = ap length e ∙ length-append front rest in
+    let most = atoms-most w in
+    let end : length front ≡ 0 + length front = omega arith in
+    let there : drop (length front) s ≡ rest = ap (drop (length front)) e ∙ drop-append-seam front rest in
+    let within : length front ≤ length s = omega arith in
+    let r = spoilt-refuses s (length front) within rest why there bad in
+    rw (le-ltb mostBytes (length s) short)
+    (tally-over s w rest (suc (length s)) (suc (length s - length atoms)) 0 (length front) nothing (fuel-left (length atoms) (length s) (omega arith)) end (omega arith) e
+    ∙ tally-stop s (suc (length s - length atoms)) (length s - length atoms) (length front) (summed nothing atoms) refl (r .place) (r .left) why (omega arith) (r .refused))
+
+pub tally-broken : (s : List ℕ) (b : Broken s) → length s ≤ mostBytes → tallyAll s ≡ TA.Stopped (record { 0 = length (b .front-bytes) }) (b .why)
+tally-broken s b short = broken-at s (b .front-bytes) (b .rest) (b .atoms) (b .why) short (b .wholes) (b .joined) (b .some) (b .spoilt)
+
+-- AN INPUT IS ONE OR THE OTHER
+starts : (l : List ℕ) (why : Refusal) → 1 ≤ length l → Spoilt l why → Broken l
+starts l why some bad = record { front-bytes = []; rest = l; atoms = []; why = why; wholes = none; joined = refl; some = some; spoilt = bad }
+
+-- a whole, known atom at the front of the bytes
+module _ (l : List ℕ) (whole : headerLength l + bodyBytes l ≤ length l) where
+  first-length : length (take (headerLength l + bodyBytes l) l) ≡ headerLength l + bodyBytes l
+  first-length = length-take-le (headerLength l + bodyBytes l) l whole
+
+  first-split : take (headerLength l + bodyBytes l) l ++ drop (headerLength l + bodyBytes l) l ≡ l
+  first-split = take-append-drop (headerLength l + bodyBytes l) l
+
+  first-header : headerLength (take (headerLength l + bodyBytes l) l) ≤ length (take (headerLength l + bodyBytes l) l)
+  first-header =
+      let g = front-grows (take (headerLength l + bodyBytes l) l) (drop (headerLength l + bodyBytes l) l) in
+      fits (headerLength (take (headerLength l + bodyBytes l) l)) (headerLength (take (headerLength l + bodyBytes l) l ++ drop (headerLength l + bodyBytes l) l)) (headerLength l) (bodyBytes l) (length (take (headerLength l + bodyBytes l) l)) g (ap headerLength first-split) first-length
+    where
+      fits : (a w h b n : ℕ) → a ≤ w → w ≡ h → n ≡ h + b → a ≤ n
+      fits a w h b n p q r = omega arith
+
+  first-front : Front (take (headerLength l + bodyBytes l) l) (drop (headerLength l + bodyBytes l) l)
+  first-front = front (take (headerLength l + bodyBytes l) l) (drop (headerLength l + bodyBytes l) l) first-header
+
+  first-kind : headerKind l ≡ headerKind (take (headerLength l + bodyBytes l) l)
+  first-kind = sym (ap headerKind first-split) ∙ first-front .same-kind
+
+  first-argument : headerArgument l ≡ headerArgument (take (headerLength l + bodyBytes l) l)
+  first-argument = sym (ap headerArgument first-split) ∙ first-front .same-argument
+
+  first-whole : known (headerKind l) (headerArgument l) ≡ true → IsAtom (take (headerLength l + bodyBytes l) l)
+  first-whole k = record {
+    its-header = first-header;
+    its-length =
+        first-length
+        ∙ ap (λ (n : ℕ). n + bodyBytes l) (sym (ap headerLength first-split) ∙ first-front .same-length)
+        ∙ ap (λ (n : ℕ). headerLength (take (headerLength l + bodyBytes l) l) + n) (same-bytes (headerKind l) (headerKind (take (headerLength l + bodyBytes l) l)) (headerArgument l) (headerArgument (take (headerLength l + bodyBytes l) l)) first-kind first-argument);
+    its-kind = same-known (headerKind l) (headerKind (take (headerLength l + bodyBytes l) l)) (headerArgument l) (headerArgument (take (headerLength l + bodyBytes l) l)) first-kind first-argument k;
+  }
+    where
+      same-bytes : (x y : Kind) (a b : ℕ) → x ≡ y → a ≡ b → bodyLength x a ≡ bodyLength y b
+      same-bytes x y a b p q = ap (λ (z : Kind). bodyLength z a) p ∙ ap (bodyLength y) q
+
+      same-known : (x y : Kind) (a b : ℕ) → x ≡ y → a ≡ b → known x a ≡ true → known y b ≡ true
+      same-known x y a b p q k = sym (ap (λ (z : Kind). known z a) p ∙ ap (known y) q) ∙ k
+
+made-more : (l atom rest : List ℕ) → IsAtom atom → atom ++ rest ≡ l → Made rest → Made l
+made-more l atom rest w e m = record { atoms = atom ∷ m .atoms; wholes = subst (λ (x : List ℕ). Atoms x (atom ∷ m .atoms)) e (more w (m .wholes)) }
+
+broken-more : (l atom rest : List ℕ) → IsAtom atom → atom ++ rest ≡ l → Broken rest → Broken l
+broken-more l atom rest w e b = record {
+  front-bytes = atom ++ b .front-bytes;
+  rest = b .rest;
+  atoms = atom ∷ b .atoms;
+  why = b .why;
+  wholes = more w (b .wholes);
+  joined = sym e ∙ ap (λ (x : List ℕ). atom ++ x) (b .joined) ∙ sym (append-assoc atom (b .front-bytes) (b .rest));
+  some = b .some;
+  spoilt = b .spoilt;
+}
+
+judge-first : (l : List ℕ) → 1 ≤ length l → ((rest : List ℕ) → length rest < length l → Made rest ⊎ Broken rest) → (t u v : Bool) → leb (headerLength l) (length l) ≡ t → known (headerKind l) (headerArgument l) ≡ u → leb (headerLength l + bodyBytes l) (length l) ≡ v → Made l ⊎ Broken l
+judge-first l some next false u v a b c = inr (starts l R.Eof some (cut-header (leb-false (headerLength l) (length l) a)))
+judge-first l some next true false v a b c = inr (starts l (unknown (headerKind l) (headerArgument l)) some (not-known (leb-true (headerLength l) (length l) a) b))
+judge-first l some next true true false a b c = inr (starts l R.Eof some (cut-body (leb-true (headerLength l) (length l) a) b (leb-false (headerLength l + bodyBytes l) (length l) c)))
+judge-first l some next true true true a b c =
+    let whole = leb-true (headerLength l + bodyBytes l) (length l) c in
+    let n : ℕ = headerLength l + bodyBytes l in
+    let w = first-whole l whole b in
+    let e = first-split l whole in
+    let one = length-bounds l .0 in
+    ⊎-elim (λ m. inl (made-more l (take n l) (drop n l) w e m)) (λ x. inr (broken-more l (take n l) (drop n l) w e x)) (next (drop n l) (shorter (length (drop n l)) (length l) (headerLength l) (bodyBytes l) (length-drop n l) one some))
+  where
+    shorter : (d n h b : ℕ) → d ≡ n - (h + b) → 1 ≤ h → 1 ≤ n → d < n
+    shorter d n h b e one some = omega arith
+
+judged-by : (fuel : ℕ) (l : List ℕ) → length l < fuel → Made l ⊎ Broken l
+judged-by zero l h = absurd (never (length l) h)
+  where
+    never : (n : ℕ) → n < 0 → ⊥
+    never n h = omega arith
+judged-by (suc fuel) [] h = inl (record { atoms = []; wholes = none })
+judged-by (suc fuel) (b ∷ l) h =
+    judge-first (b ∷ l) (omega arith) (λ rest k. judged-by fuel rest (under (length rest) (length (b ∷ l)) fuel k h)) (leb (headerLength (b ∷ l)) (length (b ∷ l))) (known (headerKind (b ∷ l)) (headerArgument (b ∷ l))) (leb (headerLength (b ∷ l) + bodyBytes (b ∷ l)) (length (b ∷ l))) refl refl refl
+  where
+    under : (d n f : ℕ) → d < n → n < suc f → d < f
+    under d n f h k = omega arith
+
+pub judged : (s : List ℕ) → Made s ⊎ Broken s
+judged s = judged-by (suc (length s)) s (omega arith)

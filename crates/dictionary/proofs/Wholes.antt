@@ -1,0 +1,164 @@
+-- The step at a whole, known atom, with a budget that covers its charge and with one that does not; and at bytes that start with
+-- no such atom.
+use mathlib.Core.Path.{_≡_, refl, _∙_, sym, ap}
+use mathlib.Core.Bool.{Bool, true, false}
+use mathlib.Core.List.{List, [], _∷_, _++_}
+use Prim.Native.Nat.{ℕ, _+_, _-_, _*_, _≤_, _<_}
+use native.Mathlib.Omega.{arith}
+use lib.ListN.{length, take, drop, length-append, length-drop}
+use lib.Seq.{drop-drop, drop-append-seam, drop-append-le, take-at}
+use Rattle.types.specs.Choice.{pick}
+use Rattle.types.specs.declared.Kind.{Kind}
+use Rattle.types.specs.declared.Place.{Place}
+use Rattle.types.specs.declared.Budget.{Budget}
+use Rattle.types.specs.declared.Refusal.{Refusal}
+use Rattle.types.specs.declared.Refusal.the-variants as R
+use Rattle.types.specs.declared.Skipped.{Skipped}
+use Rattle.types.specs.declared.Skipped.the-variants as SK
+use Rattle.types.specs.declared.Tallied.{Tallied}
+use Rattle.header.specs.Header.{headerKind, headerArgument, headerLength}
+use Rattle.header.proofs.Fewest.{length-bounds, argument-word}
+use Rattle.dictionary.specs.Letters.{letters}
+use Rattle.dictionary.specs.Wholes.{known, bodyLength, chargeOf, isString, unknown, IsAtom, price, bodyBytes, lettersIn, Spoilt, cut-header, not-known, cut-body}
+use Rattle.dictionary.specs.Steps.{skipped, bodyPast, bodyAfter}
+use Rattle.dictionary.specs.Runs.{unlimited, added}
+use Rattle.dictionary.proofs.Bodies.{past-over, past-unknown, past-eof, past-whole}
+use Rattle.dictionary.proofs.Steps.{step-cut, step-body, charge-word}
+use Rattle.dictionary.proofs.Fronts.{Front, front}
+
+same-body : (n left : ℕ) (k l : Kind) (a b h i : ℕ) → k ≡ l → a ≡ b → h ≡ i → bodyAfter n k a h left ≡ bodyAfter n l b i left
+same-body n left k l a b h i p q r =
+    ap (λ (x : Kind). bodyAfter n x a h left) p ∙ ap (λ (x : ℕ). bodyAfter n l x h left) q ∙ ap (λ (x : ℕ). bodyAfter n l b x left) r
+
+-- the largest budget covers every charge
+pub price-word : (bytes : List ℕ) → price bytes ≤ unlimited
+price-word bytes = charge-word (headerKind bytes) (headerArgument bytes) (argument-word bytes)
+
+-- an atom has a byte at least
+pub atom-some : (atom : List ℕ) → IsAtom atom → 1 ≤ length atom
+atom-some atom w = let b = length-bounds atom .0 in let h = w .its-header in omega arith
+
+module _ (s : List ℕ) (at : ℕ) (within : at ≤ length s) (atom rest : List ℕ) (here : drop at s ≡ atom ++ rest) (w : IsAtom atom) where
+  size : length s ≡ at + (length atom + length rest)
+  size = let e : length s - at ≡ length atom + length rest = sym (length-drop at s) ∙ ap length here ∙ length-append atom rest in omega arith
+
+  pub atom-within : at + length atom ≤ length s
+  atom-within = omega (arith, size)
+
+  -- what follows it
+  pub atom-next : drop (at + length atom) s ≡ rest
+  atom-next = sym (drop-drop (length atom) at s) ∙ ap (drop (length atom)) here ∙ drop-append-seam atom rest
+
+  its-front : Front atom rest
+  its-front = front atom rest (w .its-header)
+
+  header-there : headerLength (drop at s) ≡ headerLength atom
+  header-there = ap headerLength here ∙ its-front .same-length
+
+  header-room : at + headerLength (drop at s) ≤ length s
+  header-room = let a = header-there in let b = w .its-header in omega (arith, size)
+
+  body-there : (budget : Budget) → skipped s at budget ≡ bodyAfter (length s) (headerKind atom) (headerArgument atom) (at + headerLength atom) (budget .0)
+  body-there budget =
+      step-body s at within budget header-room
+      ∙ same-body (length s) (budget .0) (headerKind (drop at s)) (headerKind atom) (headerArgument (drop at s)) (headerArgument atom) (at + headerLength (drop at s)) (at + headerLength atom) (ap headerKind here ∙ its-front .same-kind) (ap headerArgument here ∙ its-front .same-argument) (ap (λ (n : ℕ). at + n) header-there)
+
+  past-end : at + headerLength atom + bodyBytes atom ≡ at + length atom
+  past-end = let e = w .its-length in omega arith
+
+  -- its charge is within the budget: it is passed, and costs its price
+  pub atom-past : (budget : Budget) → price atom ≤ budget .0 → skipped s at budget ≡ SK.Past (record { 0 = at + length atom }) (record { 0 = budget .0 - price atom }) (record { 0 = at + headerLength atom }) (isString (headerKind atom))
+  atom-past budget h =
+      let room : at + headerLength atom + bodyBytes atom ≤ length s = omega (arith, past-end, atom-within) in
+      body-there budget
+      ∙ ap (λ (t : Bool). bodyPast (length s) (at + headerLength atom) (budget .0) (isString (headerKind atom)) (bodyBytes atom) (price atom) t (unknown (headerKind atom) (headerArgument atom))) (w .its-kind)
+      ∙ past-whole (length s) (at + headerLength atom) (budget .0) (isString (headerKind atom)) (bodyBytes atom) (price atom) (unknown (headerKind atom) (headerArgument atom)) h room
+      ∙ ap (λ (n : ℕ). SK.Past (record { 0 = n }) (record { 0 = budget .0 - price atom }) (record { 0 = at + headerLength atom }) (isString (headerKind atom))) past-end
+
+  -- it is not: refusal 5, past the header, and the budget stays
+  pub atom-over : (budget : Budget) → budget .0 < price atom → skipped s at budget ≡ SK.Refused (record { 0 = at + headerLength atom }) (record { 0 = budget .0 }) R.TooManyBytesRead
+  atom-over budget h =
+      body-there budget
+      ∙ past-over (length s) (at + headerLength atom) (budget .0) (isString (headerKind atom)) (bodyBytes atom) (price atom) (unknown (headerKind atom) (headerArgument atom)) (known (headerKind atom) (headerArgument atom)) h
+
+-- what the tally adds for it
+abbrev pub plus : Tallied → List ℕ → Tallied
+plus t atom = record {
+  atoms = t .atoms + 1;
+  body = record { 0 = t .body .0 + bodyBytes atom };
+  charge = t .charge + price atom;
+  letters = t .letters + lettersIn atom;
+}
+
+abbrev counted : ℕ → ℕ → ℕ → ℕ → Tallied
+counted a b c l = record { atoms = a; body = record { 0 = b }; charge = c; letters = l }
+
+body-length : (at n h b : ℕ) → n ≡ h + b → at + n - (at + h) ≡ b
+body-length at n h b e = omega arith
+
+spent : (p : ℕ) → p ≤ 0xFFFF_FFFF_FFFF_FFFF → 0xFFFF_FFFF_FFFF_FFFF - (0xFFFF_FFFF_FFFF_FFFF - p) ≡ p
+spent p h = omega arith
+
+module _ (s : List ℕ) (at : ℕ) (atom rest : List ℕ) (here : drop at s ≡ atom ++ rest) (w : IsAtom atom) where
+  body-bytes : take (at + length atom - (at + headerLength atom)) (drop (at + headerLength atom) s) ≡ drop (headerLength atom) atom
+  body-bytes =
+      let h = headerLength atom in
+      let there : drop (at + h) s ≡ drop h atom ++ rest = sym (drop-drop h at s) ∙ ap (drop h) here ∙ drop-append-le h atom rest (w .its-header) in
+      let n : length (drop h atom) ≡ at + length atom - (at + h) = length-drop h atom ∙ span at (length atom) h in
+      ap (take (at + length atom - (at + h))) there ∙ take-at (drop h atom) rest (at + length atom - (at + h)) n
+    where
+      span : (at n h : ℕ) → n - h ≡ at + n - (at + h)
+      span at n h = omega arith
+
+  pub added-plus : (t : Tallied) → added s t (at + length atom) (unlimited - price atom) (at + headerLength atom) (isString (headerKind atom)) ≡ plus t atom
+  added-plus t =
+      ap (λ (x : ℕ). counted (t .atoms + 1) (t .body .0 + x) (t .charge + (unlimited - (unlimited - price atom))) (t .letters + pick (isString (headerKind atom)) (letters (take (at + length atom - (at + headerLength atom)) (drop (at + headerLength atom) s))) 0)) (body-length at (length atom) (headerLength atom) (bodyBytes atom) (w .its-length))
+      ∙ ap (λ (x : ℕ). counted (t .atoms + 1) (t .body .0 + bodyBytes atom) (t .charge + x) (t .letters + pick (isString (headerKind atom)) (letters (take (at + length atom - (at + headerLength atom)) (drop (at + headerLength atom) s))) 0)) (spent (price atom) (price-word atom))
+      ∙ ap (λ (x : List ℕ). counted (t .atoms + 1) (t .body .0 + bodyBytes atom) (t .charge + price atom) (t .letters + pick (isString (headerKind atom)) (letters x) 0)) body-bytes
+
+-- bytes that start with no whole, known atom: the step refuses, with the refusal of what stands there
+pub record Refuses (s : List ℕ) (at : ℕ) (why : Refusal) : Type 0 where
+  pub place : Place
+  pub left : Budget
+  pub refused : skipped s at (record { 0 = unlimited }) ≡ SK.Refused place left why
+
+room-of : (s at n : ℕ) → at ≤ s → n ≤ s - at → at + n ≤ s
+room-of s at n h k = omega arith
+
+past-of : (s at n : ℕ) → at ≤ s → s - at < n → s < at + n
+past-of s at n h k = omega arith
+
+past-both : (s at h b : ℕ) → at ≤ s → s - at < h + b → s < at + h + b
+past-both s at h b p k = omega arith
+
+module _ (s : List ℕ) (at : ℕ) (within : at ≤ length s) where
+  spoilt-at : (l : List ℕ) (why : Refusal) → drop at s ≡ l → Spoilt l why → length l ≡ length s - at → Refuses s at why
+  spoilt-at l why here (cut-header h) n =
+      record {
+        place = record { 0 = length s };
+        left = record { 0 = unlimited };
+        refused = step-cut s at within (record { 0 = unlimited }) (past-of (length s) at (headerLength (drop at s)) within (rw (← n, here) h));
+      }
+  spoilt-at l why here (not-known h k) n =
+      record {
+        place = record { 0 = at + headerLength l };
+        left = record { 0 = unlimited - price l };
+        refused =
+            step-body s at within (record { 0 = unlimited }) (room-of (length s) at (headerLength (drop at s)) within (rw (← n, here) h))
+            ∙ ap (λ (x : List ℕ). bodyAfter (length s) (headerKind x) (headerArgument x) (at + headerLength x) unlimited) here
+            ∙ ap (λ (t : Bool). bodyPast (length s) (at + headerLength l) unlimited (isString (headerKind l)) (bodyBytes l) (price l) t (unknown (headerKind l) (headerArgument l))) k
+            ∙ past-unknown (length s) (at + headerLength l) unlimited (isString (headerKind l)) (bodyBytes l) (price l) (unknown (headerKind l) (headerArgument l)) (price-word l);
+      }
+  spoilt-at l why here (cut-body h k m) n =
+      record {
+        place = record { 0 = length s };
+        left = record { 0 = unlimited - price l };
+        refused =
+            step-body s at within (record { 0 = unlimited }) (room-of (length s) at (headerLength (drop at s)) within (rw (← n, here) h))
+            ∙ ap (λ (x : List ℕ). bodyAfter (length s) (headerKind x) (headerArgument x) (at + headerLength x) unlimited) here
+            ∙ ap (λ (t : Bool). bodyPast (length s) (at + headerLength l) unlimited (isString (headerKind l)) (bodyBytes l) (price l) t (unknown (headerKind l) (headerArgument l))) k
+            ∙ past-eof (length s) (at + headerLength l) unlimited (isString (headerKind l)) (bodyBytes l) (price l) (unknown (headerKind l) (headerArgument l)) (price-word l) (past-both (length s) at (headerLength l) (bodyBytes l) within (rw (← n) m));
+      }
+
+  pub spoilt-refuses : (l : List ℕ) (why : Refusal) → drop at s ≡ l → Spoilt l why → Refuses s at why
+  spoilt-refuses l why here bad = spoilt-at l why here bad (ap length (sym here) ∙ length-drop at s)
