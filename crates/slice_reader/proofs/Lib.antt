@@ -1,1 +1,2 @@
 pub mod Shut
+pub mod Leaves
