@@ -9,7 +9,7 @@ use Rattle.types.specs.declared.AsF32.{AsF32}
 use Rattle.types.specs.declared.AsF32.the-variants as AsF32
 use Rattle.binary.specs.declared.Narrowed32 as N32
 use Rattle.binary.specs.Formats.{Layout, single, double, signWeight, Meaning, finite, infinite, nan, meaning}
-use Rattle.binary.specs.Conversions.{Narrowed, exact, lost, narrowed, narrowedMeaning, answer32}
+use Rattle.binary.specs.Conversions.{exact, narrowed, narrowedMeaning, answer32}
 use Rattle.binary.specs.Floats.{floatMeaning, plain}
 use Rattle.binary.proofs.Narrowing.{narrowed-by}
 use Rattle.binary.proofs.Values.{toBits-means, narrowed-value}

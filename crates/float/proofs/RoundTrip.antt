@@ -1,15 +1,13 @@
 -- What the float writers write reads back, with anything before and after, under every way: the header as kind Float and its
 -- count less 1, and then the float, of the same value, or for a NaN with the same bits.
 use mathlib.Core.Path.{_≡_, refl, sym, ap, _∙_, subst}
-use mathlib.Core.Bool.{Bool}
 use mathlib.Core.List.{List, [], _∷_, _++_, append-assoc}
-use Prim.Native.Nat.{ℕ, suc, _+_, _-_, _*_, _%_, _^_, _≤_, _<_}
+use Prim.Native.Nat.{ℕ, suc, _+_, _-_, _*_, _^_, _≤_, _<_}
 use native.Mathlib.Nat.{mod-eq-of-lt}
 use native.Mathlib.Omega.{arith}
 use lib.Dec.{T}
 use lib.ListN.{length, length-append}
-use lib.Ieee as Ieee
-use lib.Ieee.{binary32, binary64, fits, ofBits, toBits}
+use lib.Ieee.{binary32, binary64, fits, toBits}
 use lib.Ieee.Bits.{ofBits-toBits, toBits-lt}
 use Rattle.types.specs.Kinds.{kindCode}
 use Rattle.types.specs.declared.Way.{Way}
@@ -17,7 +15,6 @@ use Rattle.types.specs.declared.Kind.the-variants as K
 use Rattle.types.specs.declared.Float.{Float}
 use Rattle.types.specs.declared.Float.the-variants as F
 use Rattle.types.specs.declared.HeaderAnswer.the-variants as H
-use Rattle.types.specs.declared.FloatAnswer.{FloatAnswer}
 use Rattle.types.specs.declared.FloatAnswer.the-variants as FA
 use Rattle.header.specs.Header.{headerBytes, headerFrom}
 use Rattle.header.proofs.RoundTrip.{header-back}
@@ -25,21 +22,18 @@ use Rattle.little.specs.Le.{toLE, numberAt}
 use Rattle.little.proofs.Width.{to-length}
 use Rattle.little.proofs.At.{number-reads}
 use Rattle.float.specs.Floats.{floatOf, floatBody, floatFrom}
-use Rattle.float.specs.Bytes.{floatBytes, f32Bytes, f64Bytes, valueBytes}
+use Rattle.float.specs.Bytes.{floatBytes, valueBytes}
 use Rattle.float.specs.Values.{floatValue}
 use Rattle.float.proofs.Counts.{Allowed, two, four, eight, allowed-is, is-allowed}
 use Rattle.float.proofs.Answers.{body-whole, from-body}
 use Rattle.float.proofs.Stored.{Stored, value-four, value-eight, stored-single, stored-double}
 
 -- the header of a float of an allowed count is one byte
-headed-at : (c : ℕ) (b : ℕ) → Allowed c → floatBytes c b ≡ headerBytes K.Float (c - 1) ++ toLE c b
-unfolding floatBytes headerBytes
-headed-at c b (two e) = rw e refl
-headed-at c b (four e) = rw e refl
-headed-at c b (eight e) = rw e refl
-
 pub float-headed : (c b : ℕ) → Allowed c → floatBytes c b ≡ headerBytes K.Float (c - 1) ++ toLE c b
-float-headed c b a = headed-at c b a
+unfolding floatBytes headerBytes
+float-headed c b (two e) = rw e refl
+float-headed c b (four e) = rw e refl
+float-headed c b (eight e) = rw e refl
 
 header-one : (c : ℕ) → Allowed c → (length (headerBytes K.Float (c - 1)) ≡ 1) × (c - 1 < 2 ^ 64)
 unfolding headerBytes

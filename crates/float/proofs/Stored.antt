@@ -1,28 +1,23 @@
 -- What the writers store for a pattern: the same value, in the fewest bytes; for a NaN the same bits at the same width. Over
 -- every count: a writer of a width is one case. Rests on the laws of narrowing and widening.
 use mathlib.Core.Path.{_≡_, refl, sym, ap, _∙_, subst}
-use mathlib.Core.Bool.{Bool, true, false}
+use mathlib.Core.Bool.{Bool, true}
 use mathlib.Core.List.{List}
-use mathlib.Core.Logic.{_⊎_, inl, inr}
 use Prim.Native.Nat.{ℕ, _*_, _^_, _≤_, _<_}
-use native.Mathlib.Nat.{le-refl}
 use native.Mathlib.Omega.{arith}
-use lib.Dec.{lit≤, lit<}
-use lib.Ieee as Ieee
-use lib.Ieee.{binary32, binary64, ofBits, toBits}
-use Rattle.types.specs.declared.Float.{Float}
-use Rattle.types.specs.declared.Float.the-variants as F
+use lib.Dec.{lit<}
+use lib.Ieee.{binary32, binary64, ofBits}
 use Rattle.binary.specs.Formats.{Layout, half, single, double, signWeight, Meaning, finite, infinite, nan, meaning, Number, SameValue}
 use Rattle.binary.specs.Conversions.{signed, infinity, Narrowed, exact, lost, widened, narrowed}
 use Rattle.binary.specs.Floats.{floatMeaning, plain}
 use Rattle.binary.proofs.Patterns.{one-pattern}
-use Rattle.binary.proofs.Widths.{half-single, single-double}
-use Rattle.binary.proofs.Laws.{narrowed-sound, narrowed-complete, narrowed-lost, narrowed-nan, narrowed-zero, narrowed-infinite, widened-lt, widened-keeps, widened-narrowed, widened-nan}
+use Rattle.binary.proofs.Widths.{half-single}
+use Rattle.binary.proofs.Laws.{narrowed-sound, narrowed-lost, narrowed-nan, narrowed-zero, narrowed-infinite, widened-lt, widened-keeps, widened-narrowed, widened-nan}
 use Rattle.binary.proofs.Values.{ofBits-means, narrowed-value}
 use Rattle.float.specs.Floats.{allowedFloat, floatOf, layoutAt}
 use Rattle.float.specs.Bytes.{floatBytes, f32Bytes, f64Bytes, storedBytes}
 use Rattle.float.specs.Values.{floatValue, floatMeans}
-use Rattle.float.proofs.Counts.{Allowed, two, four, eight, allowed-is, is-allowed, allowed-most, float-two, float-four, float-eight}
+use Rattle.float.proofs.Counts.{Allowed, two, four, eight, allowed-is, is-allowed}
 use Rattle.float.proofs.Writes.{f32-short, f32-own, f64-short, f64-own}
 
 -- the bits of a pattern of a width, written: what they are, how many bytes hold what

@@ -10,7 +10,7 @@ use lib.Pow.{pow-add, pow-pos, pow-lt, pow-mono}
 use lib.Ieee.{Float, Format, binary32, binary64, prec, emax, low, up, down, fits}
 use lib.Ieee as I
 use lib.Ieee.Fits.{and-l, and-r, down-pos}
-use borrow.Author.Tests.{le-leb, lt-leb, eq-eqb, ne-eqb, leb-true, leb-false, eqb-true, eqb-false}
+use borrow.Author.Tests.{leb-true, leb-false, eqb-true, eqb-false}
 use Rattle.binary.specs.Floats.{unitsOf}
 
 clash : (a b : ℕ) → a ≤ b → b < a → ⊥

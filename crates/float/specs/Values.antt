@@ -1,7 +1,7 @@
 -- What a float answers of itself. Document 01, "Casts": "A float is an F32 or an F64 and carries its value." Both widths are
 -- read as one meaning: a sign and a magnitude in units of 2^-1074, an infinity, or the NaN.
 use Prim.Native.Nat.{ℕ, _-_, _^_}
-use mathlib.Core.Bool.{Bool, true, false, _&&_, _||_, Bool·beq}
+use mathlib.Core.Bool.{Bool, false, _&&_, _||_, Bool·beq}
 use lib.Dec.{leb, eqb}
 use lib.Ieee as Ieee
 use Rattle.types.specs.declared.Float.{Float}

@@ -6,7 +6,6 @@ use native.Mathlib.Omega.{arith}
 use lib.Dec.{ltb}
 use lib.IntN.{ℤ, pos, negsuc, negℤ}
 use borrow.Author.Tests.{lt-ltb, le-ltb, ltb-true, ltb-false}
-use Rattle.types.specs.Choice.{pick}
 use Rattle.little.specs.Twos.{twos}
 use Rattle.little.proofs.Two.{twos-low, twos-high}
 use Rattle.float_cast.specs.Integral.{least, clamped}

@@ -1,7 +1,7 @@
 -- From the whole number of a pattern to the integer: what `whole_from` answers decides, and its sign and width follow.
-use mathlib.Core.Path.{_≡_, refl, sym, ap, _∙_, subst}
+use mathlib.Core.Path.{_≡_, refl, sym, ap, _∙_}
 use mathlib.Core.Bool.{Bool, true, false}
-use Prim.Native.Nat.{ℕ, _+_, _-_, _*_, _/_, _%_, _^_, _≤_, _<_}
+use Prim.Native.Nat.{ℕ, _+_, _-_, _/_, _%_, _^_, _≤_, _<_}
 use native.Mathlib.Nat.{div-eq-of-lt, lt-of-lt-of-le}
 use native.Mathlib.Omega.{arith}
 use lib.Dec.{T, ltb, eqb}
@@ -17,17 +17,17 @@ use Rattle.types.specs.declared.Float.the-variants as F
 use Rattle.types.specs.declared.Refusal.the-variants as R
 use Rattle.types.specs.declared.AsInteger.{AsInteger}
 use Rattle.types.specs.declared.AsInteger.the-variants as AsInteger
-use Rattle.binary.specs.Formats.{double, allOnes, negative, exponent, fraction, magnitude, Meaning, finite, infinite, nan, meaning}
+use Rattle.binary.specs.Formats.{double, negative, exponent, fraction, magnitude, Meaning, finite, infinite, nan, meaning}
 use Rattle.binary.specs.Floats.{floatMeaning, plain}
 use Rattle.binary.proofs.Patterns.{fraction-lt, Reading, is-finite, is-infinite, is-nan, reading}
 use Rattle.binary.proofs.Values.{toBits-means}
 use Rattle.float.specs.Values.{floatValue}
 use Rattle.cast.specs.Froms.{from}
-use Rattle.float_cast.specs.Integral.{one, least, takes, clamped, integral, asInteger}
+use Rattle.float_cast.specs.Integral.{one, least, clamped, integral, asInteger}
 use Rattle.float_cast.specs.Steps.{most, wholeOf, wholeFrom}
 use Rattle.float_cast.specs.declared.Whole.{Whole}
 use Rattle.float_cast.specs.declared.Whole.the-variants as Whole
-use Rattle.float_cast.proofs.Clamps.{clamped-zero, clamped-least}
+use Rattle.float_cast.proofs.Clamps.{clamped-least}
 use Rattle.float_cast.proofs.Wholes.{field-below, field-above}
 
 -- ---- the whole number of a pattern
@@ -89,9 +89,6 @@ same-number : (a b : ℕ) → Whole.Number a ≡ Whole.Number b → a ≡ b
 same-number a b h = cc
 
 module _ (k small : ℕ) (w : Width) (bound : 51 + small ≡ 1074 - k) (room : 2 ^ hbits w ≤ most) where
-  value : ℤ → AsInteger
-  value z = AsInteger.Value (from signed w z)
-
   refused : AsInteger
   refused = AsInteger.Refused R.ImpreciseCastWouldLoseData
 

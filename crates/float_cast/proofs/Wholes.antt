@@ -1,16 +1,13 @@
 -- The whole number of a binary64 magnitude: where its exponent puts the last digit. `S` is the significand, `x` the exponent's
 -- field less 1, so that the magnitude is S * 2 ^ x.
-use mathlib.Core.Path.{_≡_, refl, sym, ap, _∙_, subst}
-use mathlib.Core.Bool.{Bool, true, false}
+use mathlib.Core.Path.{_≡_, sym, ap, _∙_, subst}
 use Prim.Native.Nat.{ℕ, zero, suc, _+_, _-_, _*_, _/_, _%_, _^_, _≤_, _<_}
-use native.Mathlib.Nat.{mul-one, mul-assoc, mul-comm, mul-pos, mul-mod-left, mul-div-cancel, mul-div-mul-right, div-add-mod', mod-eq-of-lt, eq-of-mul-eq-mul-right, zero-mul, add-zero, le-trans, le-of-eq, lt-of-lt-of-le, mul-le-mul-right, pow-suc}
+use native.Mathlib.Nat.{mul-one, mul-assoc, mul-pos, mul-mod-left, mul-div-cancel, mul-div-mul-right, div-add-mod', mod-eq-of-lt, eq-of-mul-eq-mul-right, zero-mul, add-zero, le-trans, le-of-eq, lt-of-lt-of-le, mul-le-mul-right}
 use native.Mathlib.Omega.{arith}
 use lib.Arith.{mod-mul}
-use lib.Dec.{eqb, ltb}
 use lib.Pow.{pow-add, pow-pos, pow-mono, shl-lt, shr-le}
-use borrow.Author.Tests.{lt-ltb, le-ltb, eq-eqb, ne-eqb}
-use Rattle.types.specs.Choice.{pick}
-use Rattle.binary.specs.Formats.{double, leading, smallests, magnitude}
+use borrow.Author.Tests.{eq-eqb, ne-eqb}
+use Rattle.binary.specs.Formats.{double, smallests, magnitude}
 use Rattle.float_cast.specs.Integral.{one, least}
 use Rattle.float_cast.specs.Steps.{most, wholeOf}
 use Rattle.float_cast.specs.declared.Whole.{Whole}
@@ -90,9 +87,6 @@ normal (suc x) t h = mul-one ((2 ^ 52 + t) * 2 ^ x) ∙ ap (λ (n : ℕ). (2 ^ 5
     less x = omega arith
 
 module _ (e t : ℕ) (some : 0 < e) (T : t < 2 ^ 52) where
-  S : ℕ
-  S = 2 ^ 52 + t
-
   S-lt : 2 ^ 52 + t < 2 ^ 53
   S-lt = omega arith
 

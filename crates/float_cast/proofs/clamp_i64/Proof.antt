@@ -7,7 +7,7 @@ use lib.Dec.{lit<}
 use mir.Syntax.{w64}
 use mir.Val.{toZ, ofZ}
 use Rattle.float_cast.specs.Integral.{clamped}
-use Rattle.float_cast.proofs.Clamps.{least-le, least-pos, clamped-zero, clamped-up, clamped-down}
+use Rattle.float_cast.proofs.Clamps.{least-pos, clamped-zero, clamped-up, clamped-down}
 use borrow.Author.Needs.{needs}
 use Rattle.float_cast.proofs.clamp_i64.Statement.{statement}
 use Rattle.float_cast.proofs.clamp_i64.Tie as tie
