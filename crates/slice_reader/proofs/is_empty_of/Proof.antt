@@ -44,10 +44,13 @@ use Rattle.slice_reader.proofs.SliceReader as T
 use Rattle.slice_reader.proofs.SliceReader.Laws as T′
 use Rattle.slice_reader.proofs.SliceReader.from as new
 use Rattle.slice_reader.proofs.SliceReader.from.Symbol as new-def
+use Rattle.slice_reader.proofs.SliceReader.from.Symbol.{name as #from}
 use Rattle.slice_reader.proofs.SliceReader.from.Met as new-thm
 use Rattle.slice_reader.proofs.SliceReader.is_empty as next
 use Rattle.slice_reader.proofs.SliceReader.is_empty.Symbol as next-def
+use Rattle.slice_reader.proofs.SliceReader.is_empty.Symbol.{name as #is-empty}
 use Rattle.slice_reader.proofs.SliceReader.is_empty.Met as next-thm
+use Rattle.slice_reader.proofs.is_empty_of.Key.{name as #is-empty-of}
 use Rattle.slice_reader.proofs.is_empty_of as first
 use Rattle.slice_reader.proofs.is_empty_of.Statement as stated
 use Rattle.slice_reader.proofs.is_empty_of.Code as code

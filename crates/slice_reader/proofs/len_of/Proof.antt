@@ -42,10 +42,13 @@ use Rattle.slice_reader.proofs.SliceReader as T
 use Rattle.slice_reader.proofs.SliceReader.Laws as T′
 use Rattle.slice_reader.proofs.SliceReader.from as new
 use Rattle.slice_reader.proofs.SliceReader.from.Symbol as new-def
+use Rattle.slice_reader.proofs.SliceReader.from.Symbol.{name as #from}
 use Rattle.slice_reader.proofs.SliceReader.from.Met as new-thm
 use Rattle.slice_reader.proofs.SliceReader.len as next
 use Rattle.slice_reader.proofs.SliceReader.len.Symbol as next-def
+use Rattle.slice_reader.proofs.SliceReader.len.Symbol.{name as #len}
 use Rattle.slice_reader.proofs.SliceReader.len.Met as next-thm
+use Rattle.slice_reader.proofs.len_of.Key.{name as #len-of}
 use Rattle.slice_reader.proofs.len_of as first
 use Rattle.slice_reader.proofs.len_of.Statement as stated
 use Rattle.slice_reader.proofs.len_of.Code as code

@@ -51,13 +51,17 @@ use Rattle.slice_reader.proofs.IntegerRead as I
 use Rattle.slice_reader.proofs.IntegerRead.Laws as I′
 use Rattle.slice_reader.proofs.SliceReader.from as new
 use Rattle.slice_reader.proofs.SliceReader.from.Symbol as new-def
+use Rattle.slice_reader.proofs.SliceReader.from.Symbol.{name as #from}
 use Rattle.slice_reader.proofs.SliceReader.from.Met as new-thm
 use Rattle.slice_reader.proofs.SliceReader.read_integer as read
 use Rattle.slice_reader.proofs.SliceReader.read_integer.Symbol as read-def
+use Rattle.slice_reader.proofs.SliceReader.read_integer.Symbol.{name as #read-integer}
 use Rattle.slice_reader.proofs.SliceReader.read_integer.Met as read-thm
 use Rattle.slice_reader.proofs.IntegerRead.rest as rest
 use Rattle.slice_reader.proofs.IntegerRead.rest.Symbol as rest-def
+use Rattle.slice_reader.proofs.IntegerRead.rest.Symbol.{name as #rest}
 use Rattle.slice_reader.proofs.IntegerRead.rest.Met as rest-thm
+use Rattle.slice_reader.proofs.rest_after_integer.Key.{name as #rest-after-integer}
 use Rattle.slice_reader.proofs.rest_after_integer as first
 use Rattle.slice_reader.proofs.rest_after_integer.Statement as stated
 use Rattle.slice_reader.proofs.rest_after_integer.Code as code

@@ -38,6 +38,7 @@ use denote.Exit.{yes}
 use Rattle.slice_reader.specs.declared.SliceReader.{SliceReader}
 use Rattle.slice_reader.proofs.SliceReader as T
 use Rattle.slice_reader.proofs.SliceReader.Laws as T′
+use Rattle.slice_reader.proofs.SliceReader.from.Key.{name as #slice-reader·from}
 use Rattle.slice_reader.proofs.SliceReader.from as from′
 use Rattle.slice_reader.proofs.SliceReader.from.Statement as stated
 use Rattle.slice_reader.proofs.SliceReader.from.Code as code

@@ -37,6 +37,7 @@ use denote.Exit.{yes}
 use Rattle.slice_reader.specs.declared.SliceReader.{SliceReader}
 use Rattle.slice_reader.proofs.SliceReader as T
 use Rattle.slice_reader.proofs.SliceReader.Laws as T′
+use Rattle.slice_reader.proofs.SliceReader.is_empty.Key.{name as #slice-reader·is-empty}
 use Rattle.slice_reader.proofs.SliceReader.is_empty as is-empty
 use Rattle.slice_reader.proofs.SliceReader.is_empty.Statement as stated
 use Rattle.slice_reader.proofs.SliceReader.is_empty.Code as code
