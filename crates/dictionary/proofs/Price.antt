@@ -430,6 +430,7 @@ never-five-at s place false h e =
   where
     differ : (s : List ℕ) (atoms : List (List ℕ)) (place : Place) → tallyAll s ≡ TA.Done (priced atoms) → tallyAll s ≡ TA.Stopped place R.TooManyBytesRead → _≡_ {A = ℕ} 0 1
     differ s atoms place p q = let x = sym p ∙ q in cc
+
     same : (s : List ℕ) (at place : Place) (why : Refusal) → tallyAll s ≡ TA.Stopped at why → tallyAll s ≡ TA.Stopped place R.TooManyBytesRead → why ≡ R.TooManyBytesRead
     same s at place why p q = let x = sym p ∙ q in cc
 
@@ -456,6 +457,7 @@ agree-at s t budget false h e c =
   where
     same : (a b : Tallied) → TA.Done a ≡ TA.Done b → a ≡ b
     same a b e = cc
+
     differ : (at : Place) (why : Refusal) (t : Tallied) → TA.Stopped at why ≡ TA.Done t → _≡_ {A = ℕ} 0 1
     differ at why t e = cc
 
