@@ -14,16 +14,14 @@ use Rattle.types.specs.declared.Refusal.{Refusal}
 use Rattle.types.specs.declared.Atom.{Atom}
 use Rattle.types.specs.declared.HeaderAnswer.{HeaderAnswer}
 use Rattle.types.specs.declared.HeaderAnswer.the-variants as H
-use Rattle.types.specs.declared.AtomAnswer.{AtomAnswer}
 use Rattle.types.specs.declared.AtomAnswer.the-variants as A
-use Rattle.types.specs.declared.Skipped.{Skipped}
 use Rattle.types.specs.declared.Skipped.the-variants as SK
 use Rattle.header.specs.Header.{headerRead, headerKind, headerArgument, headerLength}
 use Rattle.atom.specs.Atoms.{atomRead}
 use Rattle.dictionary.specs.Wholes.{known, bodyLength, chargeOf, isString, unknown}
 use Rattle.dictionary.specs.Steps.{forgotten, skipped, bodyPast}
 use Rattle.dictionary.proofs.Bodies.{past-over, past-unknown, past-eof, past-whole}
-use Rattle.dictionary.proofs.Steps.{step-cut, step-body, Forward, forward}
+use Rattle.dictionary.proofs.Steps.{step-cut, step-body, forward}
 
 -- the step that a read is, with the value forgotten
 pub record Step (s : List ℕ) (at : ℕ) (budget : Budget) (place : Place) (rest : Budget) : Type 0 where

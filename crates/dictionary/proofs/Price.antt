@@ -7,29 +7,26 @@ use mathlib.Core.Logic.{_⊎_, inl, inr, ⊎-elim}
 use Prim.Native.Nat.{ℕ, zero, suc, _+_, _-_, _*_, _≤_, _<_}
 use native.Mathlib.Omega.{arith}
 use lib.Dec.{ltb, leb}
-use lib.ListN.{length, take, drop, length-append, length-take, length-drop, take-append-drop}
+use lib.ListN.{length, take, drop, length-append, length-drop, take-append-drop}
 use lib.Seq.{drop-append-seam, length-take-le}
 use borrow.Author.Tests.{le-ltb, ltb-true, ltb-false, leb-true, leb-false}
-use Rattle.types.specs.Choice.{pick}
 use Rattle.types.specs.declared.Place.{Place}
-use Rattle.types.specs.declared.Budget.{Budget}
 use Rattle.types.specs.declared.Refusal.{Refusal}
 use Rattle.types.specs.declared.Refusal.the-variants as R
 use Rattle.types.specs.declared.Ran.{Ran}
 use Rattle.types.specs.declared.Ran.the-variants as RN
 use Rattle.types.specs.declared.Tallied.{Tallied}
-use Rattle.types.specs.declared.TallyAnswer.{TallyAnswer}
 use Rattle.types.specs.declared.TallyAnswer.the-variants as TA
 use Rattle.header.specs.Header.{headerKind, headerArgument, headerLength}
 use Rattle.types.specs.declared.Kind.{Kind}
 use Rattle.types.specs.declared.Kind.the-variants as K
 use Rattle.header.proofs.Fewest.{length-bounds}
 use Rattle.dictionary.specs.Wholes.{known, bodyLength, isString, unknown, IsAtom, price, bodyBytes, lettersIn, Atoms, none, more, total, Spoilt, cut-header, not-known, cut-body}
-use Rattle.dictionary.specs.Runs.{runFrom, runAll, tallyFrom, tallyAll, nothing, mostBytes, unlimited, added}
+use Rattle.dictionary.specs.Runs.{runFrom, runAll, tallyFrom, tallyAll, nothing, mostBytes, unlimited}
 use Rattle.dictionary.proofs.Steps.{price-bound}
 use Rattle.dictionary.proofs.Turns.{run-on, run-stop, run-end, tally-on, tally-stop, tally-end}
 use Rattle.dictionary.proofs.Fronts.{Front, front, front-grows}
-use Rattle.dictionary.proofs.Wholes.{price-word, atom-some, atom-within, atom-next, atom-past, atom-over, plus, added-plus, Refuses, spoilt-refuses}
+use Rattle.dictionary.proofs.Wholes.{price-word, atom-some, atom-within, atom-next, atom-past, atom-over, plus, added-plus, spoilt-refuses}
 
 -- atoms never outnumber bytes
 pub atoms-most : {l : List ℕ} {atoms : List (List ℕ)} → Atoms l atoms → length atoms ≤ length l
