@@ -10,7 +10,6 @@ use borrow.Author.Tests.{lt-ltb, le-ltb, le-leb, lt-leb, ltb-true, ltb-false, le
 use types.Run.{OneOf, miss}
 use denote.Enum.Declared.{tagOf}
 use Rattle.types.proofs.Kind.{the-type}
-use Rattle.types.specs.Choice.{pick}
 use Rattle.types.specs.declared.Way.the-variants as W
 use Rattle.types.specs.declared.Kind.{Kind}
 use Rattle.types.specs.declared.Kind.the-variants as K
@@ -19,14 +18,12 @@ use Rattle.types.specs.declared.Budget.{Budget}
 use Rattle.types.specs.declared.Refusal.{Refusal}
 use Rattle.types.specs.declared.Refusal.the-variants as R
 use Rattle.types.specs.declared.HeaderAnswer.the-variants as H
-use Rattle.types.specs.declared.Skipped.{Skipped}
 use Rattle.types.specs.declared.Skipped.the-variants as SK
 use Rattle.reader.specs.Strings.{lentString}
 use Rattle.integer.specs.Integers.{allowedCount, integerFrom, integerBody}
 use Rattle.float.specs.Floats.{allowedFloat, floatFrom, floatBody}
 use Rattle.atom.specs.Charges.{countOf, numberCharge}
 use Rattle.atom.specs.Atoms.{integerAfter, floatAfter, bytesAfter, atomAfter}
-use Rattle.dictionary.specs.Wholes.{known, bodyLength, chargeOf, isString, unknown}
 use Rattle.dictionary.specs.Steps.{forgotten, bodyPast, bodyAfter}
 
 -- the four ends of a body

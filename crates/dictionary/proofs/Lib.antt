@@ -5,3 +5,4 @@ pub mod Turns
 pub mod Fronts
 pub mod Wholes
 pub mod Price
+pub mod Forwards

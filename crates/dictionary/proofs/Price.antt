@@ -7,28 +7,26 @@ use mathlib.Core.Logic.{_⊎_, inl, inr, ⊎-elim}
 use Prim.Native.Nat.{ℕ, zero, suc, _+_, _-_, _*_, _≤_, _<_}
 use native.Mathlib.Omega.{arith}
 use lib.Dec.{ltb, leb}
-use lib.ListN.{length, take, drop, length-append, length-take, length-drop, take-append-drop}
+use lib.ListN.{length, take, drop, length-append, length-drop, take-append-drop}
 use lib.Seq.{drop-append-seam, length-take-le}
 use borrow.Author.Tests.{le-ltb, ltb-true, ltb-false, leb-true, leb-false}
-use Rattle.types.specs.Choice.{pick}
 use Rattle.types.specs.declared.Place.{Place}
-use Rattle.types.specs.declared.Budget.{Budget}
 use Rattle.types.specs.declared.Refusal.{Refusal}
 use Rattle.types.specs.declared.Refusal.the-variants as R
 use Rattle.types.specs.declared.Ran.{Ran}
 use Rattle.types.specs.declared.Ran.the-variants as RN
 use Rattle.types.specs.declared.Tallied.{Tallied}
-use Rattle.types.specs.declared.TallyAnswer.{TallyAnswer}
 use Rattle.types.specs.declared.TallyAnswer.the-variants as TA
 use Rattle.header.specs.Header.{headerKind, headerArgument, headerLength}
 use Rattle.types.specs.declared.Kind.{Kind}
+use Rattle.types.specs.declared.Kind.the-variants as K
 use Rattle.header.proofs.Fewest.{length-bounds}
 use Rattle.dictionary.specs.Wholes.{known, bodyLength, isString, unknown, IsAtom, price, bodyBytes, lettersIn, Atoms, none, more, total, Spoilt, cut-header, not-known, cut-body}
-use Rattle.dictionary.specs.Runs.{runFrom, runAll, tallyFrom, tallyAll, nothing, mostBytes, unlimited, added}
+use Rattle.dictionary.specs.Runs.{runFrom, runAll, tallyFrom, tallyAll, nothing, mostBytes, unlimited}
 use Rattle.dictionary.proofs.Steps.{price-bound}
 use Rattle.dictionary.proofs.Turns.{run-on, run-stop, run-end, tally-on, tally-stop, tally-end}
 use Rattle.dictionary.proofs.Fronts.{Front, front, front-grows}
-use Rattle.dictionary.proofs.Wholes.{price-word, atom-some, atom-within, atom-next, atom-past, atom-over, plus, added-plus, Refuses, spoilt-refuses}
+use Rattle.dictionary.proofs.Wholes.{price-word, atom-some, atom-within, atom-next, atom-past, atom-over, plus, added-plus, spoilt-refuses}
 
 -- atoms never outnumber bytes
 pub atoms-most : {l : List ℕ} {atoms : List (List ℕ)} → Atoms l atoms → length atoms ≤ length l
@@ -395,3 +393,70 @@ judged-by (suc fuel) (b ∷ l) h =
 
 pub judged : (s : List ℕ) → Made s ⊎ Broken s
 judged s = judged-by (suc (length s)) s (omega arith)
+
+-- THE TALLY NEVER ANSWERS 5: it has no budget
+other-refusal : (kind : Kind) (arg : ℕ) → unknown kind arg ≡ R.TooManyBytesRead → _≡_ {A = ℕ} 0 1
+other-refusal K.Special arg e = cc
+other-refusal K.Int arg e = cc
+other-refusal K.UInt arg e = cc
+other-refusal K.Float arg e = cc
+other-refusal K.Sequence arg e = cc
+other-refusal K.Map arg e = cc
+other-refusal K.Symbol arg e = cc
+other-refusal K.Bytes arg e = cc
+
+spoilt-other : (l : List ℕ) (why : Refusal) → Spoilt l why → why ≡ R.TooManyBytesRead → _≡_ {A = ℕ} 0 1
+spoilt-other l why (cut-header h) e = cc
+spoilt-other l why (not-known h k) e = other-refusal (headerKind l) (headerArgument l) e
+spoilt-other l why (cut-body h k m) e = cc
+
+impossible : {X : Type 0} → _≡_ {A = ℕ} 0 1 → X
+impossible z = absurd (no z)
+  where
+    no : _≡_ {A = ℕ} 0 1 → ⊥
+    no z = omega arith
+
+never-five-at : (s : List ℕ) (place : Place) (t : Bool) → ltb mostBytes (length s) ≡ t → tallyAll s ≡ TA.Stopped place R.TooManyBytesRead → _≡_ {A = ℕ} 0 1
+never-five-at s place true h e = let x : TA.Stopped (record { 0 = 0 }) R.TooLong ≡ TA.Stopped place R.TooManyBytesRead = rw h at e in cc
+never-five-at s place false h e =
+    let short = ltb-false mostBytes (length s) h in
+    ⊎-elim
+    (λ m. differ s (m .atoms) place (tally-priced s (m .atoms) short (m .wholes)) e)
+    (λ b. spoilt-other (b .rest) (b .why) (b .spoilt) (same s (record { 0 = length (b .front-bytes) }) place (b .why) (tally-broken s b short) e))
+    (judged s)
+  where
+    differ : (s : List ℕ) (atoms : List (List ℕ)) (place : Place) → tallyAll s ≡ TA.Done (priced atoms) → tallyAll s ≡ TA.Stopped place R.TooManyBytesRead → _≡_ {A = ℕ} 0 1
+    differ s atoms place p q = let x = sym p ∙ q in cc
+
+    same : (s : List ℕ) (at place : Place) (why : Refusal) → tallyAll s ≡ TA.Stopped at why → tallyAll s ≡ TA.Stopped place R.TooManyBytesRead → why ≡ R.TooManyBytesRead
+    same s at place why p q = let x = sym p ∙ q in cc
+
+pub never-five : (s : List ℕ) (place : Place) → tallyAll s ≡ TA.Stopped place R.TooManyBytesRead → ⊥
+never-five s place e = let z = never-five-at s place (ltb mostBytes (length s)) refl e in omega arith
+
+-- THE RUN AND THE TALLY AGREE: a run with at least the charge that the tally answers reads as many atoms, and leaves the rest
+agree-made : (s : List ℕ) (atoms : List (List ℕ)) (t : Tallied) (budget : ℕ) → Atoms s atoms → priced atoms ≡ t → t .charge ≤ budget → runAll s (record { 0 = budget }) ≡ RN.Done (record { 0 = length s }) (record { 0 = budget - t .charge }) (t .atoms)
+agree-made s atoms t budget w e h =
+    let c : total price atoms ≡ t .charge = ap (λ (x : Tallied). x .charge) e in
+    let n : length atoms ≡ t .atoms = ap (λ (x : Tallied). x .atoms) e in
+    run-priced s atoms budget w (rw c h)
+    ∙ ap (λ (x : ℕ). RN.Done (record { 0 = length s }) (record { 0 = budget - x }) (length atoms)) c
+    ∙ ap (λ (x : ℕ). RN.Done (record { 0 = length s }) (record { 0 = budget - t .charge }) x) n
+
+agree-at : (s : List ℕ) (t : Tallied) (budget : ℕ) (l : Bool) → ltb mostBytes (length s) ≡ l → tallyAll s ≡ TA.Done t → t .charge ≤ budget → runAll s (record { 0 = budget }) ≡ RN.Done (record { 0 = length s }) (record { 0 = budget - t .charge }) (t .atoms)
+agree-at s t budget true h e c = let x : TA.Stopped (record { 0 = 0 }) R.TooLong ≡ TA.Done t = rw h at e in impossible (cc)
+agree-at s t budget false h e c =
+    let short = ltb-false mostBytes (length s) h in
+    ⊎-elim
+    (λ m. agree-made s (m .atoms) t budget (m .wholes) (same (priced (m .atoms)) t (sym (tally-priced s (m .atoms) short (m .wholes)) ∙ e)) c)
+    (λ b. impossible (differ (record { 0 = length (b .front-bytes) }) (b .why) t (sym (tally-broken s b short) ∙ e)))
+    (judged s)
+  where
+    same : (a b : Tallied) → TA.Done a ≡ TA.Done b → a ≡ b
+    same a b e = cc
+
+    differ : (at : Place) (why : Refusal) (t : Tallied) → TA.Stopped at why ≡ TA.Done t → _≡_ {A = ℕ} 0 1
+    differ at why t e = cc
+
+pub agree : (s : List ℕ) (t : Tallied) (budget : ℕ) → tallyAll s ≡ TA.Done t → t .charge ≤ budget → runAll s (record { 0 = budget }) ≡ RN.Done (record { 0 = length s }) (record { 0 = budget - t .charge }) (t .atoms)
+agree s t budget e c = agree-at s t budget (ltb mostBytes (length s)) refl e c

@@ -5,7 +5,7 @@ use mathlib.Core.Bool.{Bool, true, false}
 use mathlib.Core.List.{List, []}
 use Prim.Native.Nat.{ℕ, _+_, _-_, _*_, _%_, _^_, _≤_, _<_}
 use native.Mathlib.Omega.{arith}
-use lib.Dec.{ltb, leb, eqb}
+use lib.Dec.{leb, eqb}
 use lib.ListN.{length, drop}
 use borrow.Author.Tests.{le-ltb, le-leb, lt-leb, leb-true, leb-false, eqb-true}
 use Rattle.types.specs.Choice.{pick}
@@ -14,20 +14,18 @@ use Rattle.types.specs.declared.Kind.{Kind}
 use Rattle.types.specs.declared.Kind.the-variants as K
 use Rattle.types.specs.declared.Place.{Place}
 use Rattle.types.specs.declared.Budget.{Budget}
-use Rattle.types.specs.declared.Refusal.{Refusal}
 use Rattle.types.specs.declared.Refusal.the-variants as R
 use Rattle.types.specs.declared.HeaderAnswer.{HeaderAnswer}
 use Rattle.types.specs.declared.HeaderAnswer.the-variants as H
-use Rattle.types.specs.declared.Skipped.{Skipped}
 use Rattle.types.specs.declared.Skipped.the-variants as SK
 use Rattle.header.specs.Header.{headerFrom, headerRead, headerKind, headerArgument, headerLength}
-use Rattle.header.proofs.Fewest.{length-bounds, argument-word}
+use Rattle.header.proofs.Fewest.{length-bounds}
 use Rattle.atom.specs.Charges.{countOf, numberCharge}
 use Rattle.atom.specs.Atoms.{atomRead, atomFrom}
 use Rattle.dictionary.specs.Wholes.{known, bodyLength, chargeOf, isString, unknown}
-use Rattle.dictionary.specs.Steps.{forgotten, skipped, bodyPast, bodyAfter}
+use Rattle.dictionary.specs.Steps.{forgotten, skipped, bodyAfter}
 use Rattle.dictionary.specs.Runs.{unlimited}
-use Rattle.dictionary.proofs.Bodies.{after-header, past-over, past-unknown, past-eof, past-whole, Passed, passed}
+use Rattle.dictionary.proofs.Bodies.{after-header, Passed, passed}
 
 module _ (s : List ℕ) (at : ℕ) (within : at ≤ length s) (budget : Budget) where
   -- the header is cut: "4 Eof: end of slice", and the budget stays

@@ -1,7 +1,7 @@
 -- The turns of the run and of the tally, by what the step answers. The run is defined over `read_atom`: the step's answer says
 -- what that was.
-use mathlib.Core.Path.{_≡_, refl, _∙_, sym, ap}
-use mathlib.Core.Bool.{Bool, true, false}
+use mathlib.Core.Path.{_≡_, refl}
+use mathlib.Core.Bool.{Bool}
 use mathlib.Core.List.{List, []}
 use Prim.Native.Nat.{ℕ, suc, _+_, _-_, _≤_, _<_}
 use native.Mathlib.Omega.{arith}
@@ -15,17 +15,14 @@ use Rattle.types.specs.declared.HeaderAnswer.{HeaderAnswer}
 use Rattle.types.specs.declared.HeaderAnswer.the-variants as H
 use Rattle.types.specs.declared.AtomAnswer.{AtomAnswer}
 use Rattle.types.specs.declared.AtomAnswer.the-variants as A
-use Rattle.types.specs.declared.Skipped.{Skipped}
 use Rattle.types.specs.declared.Skipped.the-variants as SK
-use Rattle.types.specs.declared.Ran.{Ran}
 use Rattle.types.specs.declared.Ran.the-variants as RN
 use Rattle.types.specs.declared.Tallied.{Tallied}
-use Rattle.types.specs.declared.TallyAnswer.{TallyAnswer}
 use Rattle.types.specs.declared.TallyAnswer.the-variants as TA
 use Rattle.header.specs.Header.{headerRead}
 use Rattle.atom.specs.Atoms.{atomRead}
 use Rattle.dictionary.specs.Steps.{forgotten, skipped}
-use Rattle.dictionary.specs.Runs.{afterAtom, afterStep, runFrom, tallyFrom, added, unlimited}
+use Rattle.dictionary.specs.Runs.{afterAtom, runFrom, tallyFrom, added, unlimited}
 
 no : {X : Type 0} → _≡_ {A = ℕ} 0 1 → X
 no z = absurd (never z)

@@ -1,9 +1,9 @@
 -- The step at a whole, known atom, with a budget that covers its charge and with one that does not; and at bytes that start with
 -- no such atom.
-use mathlib.Core.Path.{_≡_, refl, _∙_, sym, ap}
-use mathlib.Core.Bool.{Bool, true, false}
-use mathlib.Core.List.{List, [], _∷_, _++_}
-use Prim.Native.Nat.{ℕ, _+_, _-_, _*_, _≤_, _<_}
+use mathlib.Core.Path.{_≡_, _∙_, sym, ap}
+use mathlib.Core.Bool.{Bool}
+use mathlib.Core.List.{List, _++_}
+use Prim.Native.Nat.{ℕ, _+_, _-_, _≤_, _<_}
 use native.Mathlib.Omega.{arith}
 use lib.ListN.{length, take, drop, length-append, length-drop}
 use lib.Seq.{drop-drop, drop-append-seam, drop-append-le, take-at}
@@ -13,13 +13,12 @@ use Rattle.types.specs.declared.Place.{Place}
 use Rattle.types.specs.declared.Budget.{Budget}
 use Rattle.types.specs.declared.Refusal.{Refusal}
 use Rattle.types.specs.declared.Refusal.the-variants as R
-use Rattle.types.specs.declared.Skipped.{Skipped}
 use Rattle.types.specs.declared.Skipped.the-variants as SK
 use Rattle.types.specs.declared.Tallied.{Tallied}
 use Rattle.header.specs.Header.{headerKind, headerArgument, headerLength}
 use Rattle.header.proofs.Fewest.{length-bounds, argument-word}
 use Rattle.dictionary.specs.Letters.{letters}
-use Rattle.dictionary.specs.Wholes.{known, bodyLength, chargeOf, isString, unknown, IsAtom, price, bodyBytes, lettersIn, Spoilt, cut-header, not-known, cut-body}
+use Rattle.dictionary.specs.Wholes.{known, isString, unknown, IsAtom, price, bodyBytes, lettersIn, Spoilt, cut-header, not-known, cut-body}
 use Rattle.dictionary.specs.Steps.{skipped, bodyPast, bodyAfter}
 use Rattle.dictionary.specs.Runs.{unlimited, added}
 use Rattle.dictionary.proofs.Bodies.{past-over, past-unknown, past-eof, past-whole}

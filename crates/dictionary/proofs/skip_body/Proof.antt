@@ -1,5 +1,5 @@
 -- `dictionary::skip_body` meets its contract, kind by kind.
-use mathlib.Core.Path.{_∙_, sym}
+use mathlib.Core.Path.{_∙_}
 use denote.Ref.{now}
 use lib.ListN.{length}
 use Rattle.types.specs.declared.Refusal.the-variants as R

@@ -1,6 +1,6 @@
 -- `dictionary::tally` meets its contract: a turn of the loop is a turn of the definition. The sums are bounded by the bytes
 -- passed, of which there are at most 16,777,216, so that none wraps; the bytes left are the measure.
-use Prim.Native.Nat.{ℕ, suc, _≤_, _<_, _-_, _+_, _*_}
+use Prim.Native.Nat.{ℕ, suc, _≤_, _-_, _+_, _*_}
 use mathlib.Core.Path.{_≡_, _∙_, sym, ap}
 use native.Mathlib.Omega.{arith}
 use borrow.Author.Needs.{needs}
