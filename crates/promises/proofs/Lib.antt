@@ -13,5 +13,6 @@ pub mod FloatCast
 pub mod Atom
 pub mod Dictionary
 pub mod SliceReader
+pub mod Exactly
 pub mod Demand2
 pub mod Starred

@@ -1,0 +1,159 @@
+-- This paper's number and values for the answers that carry an integer, a float, an atom or a budget; those of the other
+-- answers stand in `types.Told`. "If an answer is an enum, a definition tells you this paper's number and values for each of
+-- its cases." A float is told by its case: 0, its sign and its magnitude in units of 2^-1074; 1 and the sign of an infinity;
+-- 2 of the NaN.
+use Prim.Native.Nat.{ℕ}
+use mathlib.Core.Bool.{Bool}
+use mathlib.Core.List.{List, [], _∷_}
+use lib.IntN.{ℤ, pos}
+use lib.Ieee as Ieee
+use Rattle.types.specs.Choice.{pick}
+use Rattle.types.specs.Kinds.{kindCode}
+use Rattle.types.specs.Told.{Told, taken, refused}
+use Rattle.types.specs.declared.Integer.{Integer}
+use Rattle.types.specs.declared.Float.{Float}
+use Rattle.types.specs.declared.Float.the-variants as F
+use Rattle.types.specs.declared.Nucleus.{Nucleus}
+use Rattle.types.specs.declared.Nucleus.the-variants as N
+use Rattle.types.specs.declared.IntegerAnswer.{IntegerAnswer}
+use Rattle.types.specs.declared.IntegerAnswer.the-variants as IA
+use Rattle.types.specs.declared.FloatAnswer.{FloatAnswer}
+use Rattle.types.specs.declared.FloatAnswer.the-variants as FA
+use Rattle.types.specs.declared.AtomAnswer.{AtomAnswer}
+use Rattle.types.specs.declared.AtomAnswer.the-variants as A
+use Rattle.types.specs.declared.BudgetAnswer.{BudgetAnswer}
+use Rattle.types.specs.declared.BudgetAnswer.the-variants as BA
+use Rattle.types.specs.declared.AsI8.{AsI8}
+use Rattle.types.specs.declared.AsI8.the-variants as I8
+use Rattle.types.specs.declared.AsI16.{AsI16}
+use Rattle.types.specs.declared.AsI16.the-variants as I16
+use Rattle.types.specs.declared.AsI32.{AsI32}
+use Rattle.types.specs.declared.AsI32.the-variants as I32
+use Rattle.types.specs.declared.AsI64.{AsI64}
+use Rattle.types.specs.declared.AsI64.the-variants as I64
+use Rattle.types.specs.declared.AsU8.{AsU8}
+use Rattle.types.specs.declared.AsU8.the-variants as U8
+use Rattle.types.specs.declared.AsU16.{AsU16}
+use Rattle.types.specs.declared.AsU16.the-variants as U16
+use Rattle.types.specs.declared.AsU32.{AsU32}
+use Rattle.types.specs.declared.AsU32.the-variants as U32
+use Rattle.types.specs.declared.AsU64.{AsU64}
+use Rattle.types.specs.declared.AsU64.the-variants as U64
+use Rattle.types.specs.declared.AsWide.{AsWide}
+use Rattle.types.specs.declared.AsWide.the-variants as Wide
+use Rattle.types.specs.declared.AsF32.{AsF32}
+use Rattle.types.specs.declared.AsF32.the-variants as F32
+use Rattle.types.specs.declared.AsF64.{AsF64}
+use Rattle.types.specs.declared.AsF64.the-variants as F64
+use Rattle.types.specs.declared.AsFloat.{AsFloat}
+use Rattle.types.specs.declared.AsFloat.the-variants as Fl
+use Rattle.types.specs.declared.AsInteger.{AsInteger}
+use Rattle.types.specs.declared.AsInteger.the-variants as In
+use Rattle.cast.specs.Variants.{sign, width, value}
+use Rattle.binary.specs.Formats.{Meaning, finite, infinite, nan}
+use Rattle.binary.specs.Floats.{floatMeaning}
+use mir.Syntax.{Sign, signed, unsigned}
+use mir.Val.{bits}
+
+-- an integer by its variant, signed or not and so many bits wide, and its value
+abbrev signTold : Sign → ℕ
+signTold signed = 1
+signTold unsigned = 0
+
+abbrev pub integerTold : Integer → List ℤ
+integerTold x = pos (signTold (sign x)) ∷ pos (bits (width x)) ∷ value x ∷ []
+
+abbrev meaningTold : Meaning → List ℤ
+meaningTold (finite s m) = pos 0 ∷ pos (pick s 1 0) ∷ pos m ∷ []
+meaningTold (infinite s) = pos 1 ∷ pos (pick s 1 0) ∷ []
+meaningTold (nan s t) = pos 2 ∷ []
+
+-- a value by its meaning
+abbrev pub valueTold : Ieee.Float → List ℤ
+valueTold x = meaningTold (floatMeaning x)
+
+-- a float by its width and its value
+abbrev pub floatTold : Float → List ℤ
+floatTold (F.F32 x) = pos 32 ∷ valueTold x
+floatTold (F.F64 x) = pos 64 ∷ valueTold x
+
+-- what an atom holds, by its place in the list of cases from 0 on
+abbrev pub nucleusTold : Nucleus → List ℤ
+nucleusTold N.None = pos 0 ∷ []
+nucleusTold (N.Boolean b) = pos 1 ∷ pos (pick b 1 0) ∷ []
+nucleusTold (N.Integer x) = pos 2 ∷ integerTold x
+nucleusTold (N.Float x stored) = pos 3 ∷ pos stored ∷ floatTold x
+nucleusTold (N.Bytes m) = pos 4 ∷ pos (m .start) ∷ pos (m .len) ∷ pos (pick (m .lent) 1 0) ∷ []
+nucleusTold N.Unit = pos 5 ∷ []
+nucleusTold N.Named = pos 6 ∷ []
+nucleusTold N.DynamicMap = pos 7 ∷ []
+nucleusTold N.DynamicEnd = pos 8 ∷ []
+
+abbrev pub toldInteger : IntegerAnswer → Told
+toldInteger (IA.Read p x) = taken (pos (p .0) ∷ integerTold x)
+toldInteger (IA.Refused p r) = refused (pos (p .0) ∷ []) r
+
+abbrev pub toldFloat : FloatAnswer → Told
+toldFloat (FA.Read p x stored) = taken (pos (p .0) ∷ pos stored ∷ floatTold x)
+toldFloat (FA.Refused p r) = refused (pos (p .0) ∷ []) r
+
+abbrev pub toldAtom : AtomAnswer → Told
+toldAtom (A.Read p b x) = taken (pos (p .0) ∷ pos (b .0) ∷ pos (kindCode (x .kind)) ∷ pos (x .arg) ∷ nucleusTold (x .nucleus))
+toldAtom (A.Refused p b r) = refused (pos (p .0) ∷ pos (b .0) ∷ []) r
+
+abbrev pub toldBudget : BudgetAnswer → Told
+toldBudget (BA.Left b) = taken (pos (b .0) ∷ [])
+toldBudget (BA.Refused r) = refused [] r
+
+abbrev pub toldAsI8 : AsI8 → Told
+toldAsI8 (I8.Value z) = taken (z ∷ [])
+toldAsI8 (I8.Refused r) = refused [] r
+
+abbrev pub toldAsI16 : AsI16 → Told
+toldAsI16 (I16.Value z) = taken (z ∷ [])
+toldAsI16 (I16.Refused r) = refused [] r
+
+abbrev pub toldAsI32 : AsI32 → Told
+toldAsI32 (I32.Value z) = taken (z ∷ [])
+toldAsI32 (I32.Refused r) = refused [] r
+
+abbrev pub toldAsI64 : AsI64 → Told
+toldAsI64 (I64.Value z) = taken (z ∷ [])
+toldAsI64 (I64.Refused r) = refused [] r
+
+abbrev pub toldAsU8 : AsU8 → Told
+toldAsU8 (U8.Value k) = taken (pos k ∷ [])
+toldAsU8 (U8.Refused r) = refused [] r
+
+abbrev pub toldAsU16 : AsU16 → Told
+toldAsU16 (U16.Value k) = taken (pos k ∷ [])
+toldAsU16 (U16.Refused r) = refused [] r
+
+abbrev pub toldAsU32 : AsU32 → Told
+toldAsU32 (U32.Value k) = taken (pos k ∷ [])
+toldAsU32 (U32.Refused r) = refused [] r
+
+abbrev pub toldAsU64 : AsU64 → Told
+toldAsU64 (U64.Value k) = taken (pos k ∷ [])
+toldAsU64 (U64.Refused r) = refused [] r
+
+-- the low word and the high word
+abbrev pub toldAsWide : AsWide → Told
+toldAsWide (Wide.Value w) = taken (pos (w .lo) ∷ pos (w .hi) ∷ [])
+toldAsWide (Wide.Refused r) = refused [] r
+
+abbrev pub toldAsF32 : AsF32 → Told
+toldAsF32 (F32.Value x) = taken (valueTold x)
+toldAsF32 (F32.Refused r) = refused [] r
+
+abbrev pub toldAsF64 : AsF64 → Told
+toldAsF64 (F64.Value x) = taken (valueTold x)
+toldAsF64 (F64.Refused r) = refused [] r
+
+abbrev pub toldAsFloat : AsFloat → Told
+toldAsFloat (Fl.Value x) = taken (floatTold x)
+toldAsFloat (Fl.Refused r) = refused [] r
+
+abbrev pub toldAsInteger : AsInteger → Told
+toldAsInteger (In.Value x) = taken (integerTold x)
+toldAsInteger (In.Refused r) = refused [] r
