@@ -13,6 +13,7 @@ pub mod FloatCast
 pub mod Atom
 pub mod Dictionary
 pub mod SliceReader
+pub mod Report
 pub mod Exactly
 pub mod Demand2
 pub mod Starred
