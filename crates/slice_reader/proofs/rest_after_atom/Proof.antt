@@ -1,7 +1,7 @@
 -- `slice_reader::rest_after_atom` meets its contract: a walk of its MIR, by hand. The reader that `from` returns is passed to `read_atom`, and what that returns to `rest`. All that the proof knows of the three is that each meets its contract.
 -- The machine values that they return are stored and passed on as they are. In a local of a body MIR erases the lifetime of a struct's type, so each is shown to have the type at `erased`: what a struct owns does not say the lifetime's name.
 -- Assumes nothing.
-use mathlib.Core.Path.{_≡_, refl, ap, _∙_, subst}
+use mathlib.Core.Path.{_≡_, refl}
 use Prim.Native.Nat.{ℕ}
 use mathlib.Core.List.{List, [], _∷_}
 use lib.ListN.{length}
@@ -75,9 +75,9 @@ abbrev stayed : Stays (first.ended .signature .params) (first.ended .kept)
 stayed = (stay-none-slice (0 ∷ []) tt (plain (λ _. u8)) yes, (stay-none (λ _. K.the-row) yes, tt))
 
 -- what is known of the last reader, from what each call says of its result
-left-is : (s x z : RefT (List ℕ)) (n : Budget) (w : AtomRead) → x ≡ s → (w .answer ≡ atomGiven (now x) n) × LeftOf x (atomPlace (w .answer)) (w .reader .«data») → z ≡ w .reader .«data»
-    → LeftOf s (atomPlace (atomGiven (now s) n)) z
-left-is s x z n w e f g = rw (← e, ← f .0, g) (f .1)
+left-is : (s x z : RefT (List ℕ)) (b : Budget) (w : AtomRead) → x ≡ s → (w .answer ≡ atomGiven (now x) b) × LeftOf x (atomPlace (w .answer)) (w .reader .«data») → z ≡ w .reader .«data»
+    → LeftOf s (atomPlace (atomGiven (now s) b)) z
+left-is s x z b w e f g = rw (← e, ← f .0, g) (f .1)
 
 module _ {M : Type 1} (𝓤 : URA M) (H : Heap 𝓤) (A : Atoms 𝓤) (mem : Memory → SProp 𝓤) (run : Routine → Fun 𝓤) where
   -- the contracts that the proof cites
@@ -90,7 +90,7 @@ module _ {M : Type 1} (𝓤 : URA M) (H : Heap 𝓤) (A : Atoms 𝓤) (mem : Mem
   abbrev Rest : Contract 𝓤
   Rest = tripleOf 𝓤 H A rest.signature (rest.spec 𝓤 H A mem run)
 
-module _ {M : Type 1} (𝓤 : URA M) (H : Heap 𝓤) (A : Atoms 𝓤) (W : Given 𝓤 H A) (mem : Memory → SProp 𝓤) (run : Routine → Fun 𝓤) (κ : Lft) (q : Share) (s : RefT (List ℕ)) (n : Budget) (is-n : Is K.the-row n (LL.val K.the-type K′.the-laws n ∷ [])) where
+module _ {M : Type 1} (𝓤 : URA M) (H : Heap 𝓤) (A : Atoms 𝓤) (W : Given 𝓤 H A) (mem : Memory → SProp 𝓤) (run : Routine → Fun 𝓤) (κ : Lft) (q : Share) (s : RefT (List ℕ)) (b : Budget) (is-b : Is K.the-row b (LL.val K.the-type K′.the-laws b ∷ [])) where
   abbrev Ref : Type 0
   Ref = RefT (List ℕ)
 
@@ -99,14 +99,14 @@ module _ {M : Type 1} (𝓤 : URA M) (H : Heap 𝓤) (A : Atoms 𝓤) (W : Given
   v = sliceVal (s .ptr) (length (s .now))
 
   abbrev at : Vals first.signature (κ, tt)
-  at = (v ∷ [], (LL.val K.the-type K′.the-laws n ∷ [], tt))
+  at = (v ∷ [], (LL.val K.the-type K′.the-laws b ∷ [], tt))
 
   -- a lifetime as the struct's type has it in a local of a body
   abbrev αᵉ : NamedLft
   αᵉ = record { mir = erased; lft = κ }
 
   abbrev Post : Val → SProp 𝓤
-  Post = walkOf 𝓤 H A first.ended stayed (first.clauses 𝓤 H A mem run) .post (((κ, tt), (q, tt), tt, (s, (n, tt)), at), tt)
+  Post = walkOf 𝓤 H A first.ended stayed (first.clauses 𝓤 H A mem run) .post (((κ, tt), (q, tt), tt, (s, (b, tt)), at), tt)
 
   abbrev R : RattleType
   R = ShrSlice (named 0) κ u8
@@ -118,9 +118,9 @@ module _ {M : Type 1} (𝓤 : URA M) (H : Heap 𝓤) (A : Atoms 𝓤) (W : Given
   abbrev to-new : New 𝓤 H A mem run .Ghost
   to-new = (((κ, tt), (q, tt), tt, (s, tt), (v ∷ [], tt)), tt)
 
-  goes-new : ent 𝓤 (onEntry 𝓤 H A first.signature (κ, tt) (q, tt) (s, (n, tt)) at) (sep 𝓤 (New 𝓤 H A mem run .pre to-new) (sem 𝓤 H A Own))
+  goes-new : ent 𝓤 (onEntry 𝓤 H A first.signature (κ, tt) (q, tt) (s, (b, tt)) at) (sep 𝓤 (New 𝓤 H A mem run .pre to-new) (sem 𝓤 H A Own))
   goes-new =
-      qed W ((‵ (flft κ q) ⊛ ‵ ftrue) ∷ ‵ (owns (R ∷ K.the-row ∷ []) (s, (n, tt)) at) ∷ []) ∵
+      qed W ((‵ (flft κ q) ⊛ ‵ ftrue) ∷ ‵ (owns (R ∷ K.the-row ∷ []) (s, (b, tt)) at) ∷ []) ∵
       move ! (1 ∷ []) $ fsplit ! $ move ! (1 ∷ []) $ drop ! $ use1 W (‵ Own ⊛ ‵ Own) (shr-slice-copy 𝓤 H A W (named 0) κ u8 .twice s (v ∷ [])) $ split ! $
       nothing ! $ move ! (1 ∷ 0 ∷ []) $ fjoin ! $ move ! (2 ∷ 0 ∷ []) $ use2 W (raw (New 𝓤 H A mem run .pre to-new)) (qed W ((‵ (flft κ q) ⊛ ‵ ftrue) ∷ ‵ (owns (R ∷ []) (s, tt) (v ∷ [], tt)) ∷ []) ∵ join ! $ frame ! $ done !) $ frame ! $ done !
 
@@ -129,21 +129,21 @@ module _ {M : Type 1} (𝓤 : URA M) (H : Heap 𝓤) (A : Atoms 𝓤) (W : Given
 
   -- the call of `read_atom`, at the reader r with the machine value u
   abbrev Said : SliceReader → AtomRead → Type 0
-  Said r w = (w .answer ≡ atomGiven (now (r .«data»)) n) × LeftOf (r .«data») (atomPlace (w .answer)) (w .reader .«data»)
+  Said r w = (w .answer ≡ atomGiven (now (r .«data»)) b) × LeftOf (r .«data») (atomPlace (w .answer)) (w .reader .«data»)
 
   abbrev passed : Val → Vals read.signature (κ, tt)
-  passed u = (u ∷ [], (LL.val K.the-type K′.the-laws n ∷ [], tt))
+  passed u = (u ∷ [], (LL.val K.the-type K′.the-laws b ∷ [], tt))
 
   abbrev to-read : SliceReader → Val → Read 𝓤 H A mem run .Ghost
-  to-read r u = (((κ, tt), (q, tt), tt, (r, (n, tt)), passed u), tt)
+  to-read r u = (((κ, tt), (q, tt), tt, (r, (b, tt)), passed u), tt)
 
   goes-read : (r : SliceReader) (u : Val) → ent 𝓤 (⋆ 𝓤 H A (‵ (B (κ, tt) .own r (u ∷ [])) ∷ (‵ (flft κ q) ⊛ ‵ ftrue) ∷ [])) (Read 𝓤 H A mem run .pre (to-read r u))
   goes-read r u =
-      qed W (‵ (B (κ, tt) .own r (u ∷ [])) ∷ (‵ (flft κ q) ⊛ ‵ ftrue) ∷ []) ∵ nothing ! $ owned ! K.the-row (Is K.the-row) (LL.makes K.the-type K′.the-plain 𝓤 H A) n _ is-n $ fjoin ! $
+      qed W (‵ (B (κ, tt) .own r (u ∷ [])) ∷ (‵ (flft κ q) ⊛ ‵ ftrue) ∷ []) ∵ nothing ! $ owned ! K.the-row (Is K.the-row) (LL.makes K.the-type K′.the-plain 𝓤 H A) b _ is-b $ fjoin ! $
       move ! (1 ∷ 0 ∷ []) $ fjoin ! $ move ! (1 ∷ 0 ∷ []) $ join ! $ frame ! $ done !
 
-  read-said : (r : SliceReader) (w : AtomRead) → ent 𝓤 (ensured 𝓤 H A read.ended (read.clauses 𝓤 H A mem run) (κ, tt) (r, (n, tt)) tt w) (fact 𝓤 (Said r w))
-  read-said r w = exE 𝓤 _ (λ ws. snd∗ 𝓤 (sem 𝓤 H A (lasts read.ended (κ, tt) (r, (n, tt)) ws)) (fact 𝓤 (Said r w)))
+  read-said : (r : SliceReader) (w : AtomRead) → ent 𝓤 (ensured 𝓤 H A read.ended (read.clauses 𝓤 H A mem run) (κ, tt) (r, (b, tt)) tt w) (fact 𝓤 (Said r w))
+  read-said r w = exE 𝓤 _ (λ ws. snd∗ 𝓤 (sem 𝓤 H A (lasts read.ended (κ, tt) (r, (b, tt)) ws)) (fact 𝓤 (Said r w)))
 
   -- the call of `rest`, at what was read, w, with the machine value u
   abbrev to-rest : AtomRead → Val → Rest 𝓤 H A mem run .Ghost
@@ -155,17 +155,17 @@ module _ {M : Type 1} (𝓤 : URA M) (H : Heap 𝓤) (A : Atoms 𝓤) (W : Given
   rest-said : (w : AtomRead) (t : Ref) → ent 𝓤 (ensured 𝓤 H A rest.ended (rest.clauses 𝓤 H A mem run) (κ, tt) (w, tt) tt t) (fact 𝓤 (t ≡ w .reader .«data»))
   rest-said w t = exE 𝓤 _ (λ ws. snd∗ 𝓤 (sem 𝓤 H A (lasts rest.ended (κ, tt) (w, tt) ws)) (fact 𝓤 (t ≡ w .reader .«data»)))
 
-  exits : (t : Ref) (u : Val) → LeftOf s (atomPlace (atomGiven (now s) n)) t → ent 𝓤 (⋆ 𝓤 H A (‵ (R .own t (u ∷ [])) ∷ (‵ (flft κ q) ⊛ ‵ ftrue) ∷ ‵ Own ∷ [])) (Post u)
+  exits : (t : Ref) (u : Val) → LeftOf s (atomPlace (atomGiven (now s) b)) t → ent 𝓤 (⋆ 𝓤 H A (‵ (R .own t (u ∷ [])) ∷ (‵ (flft κ q) ⊛ ‵ ftrue) ∷ ‵ Own ∷ [])) (Post u)
   exits t u e =
       qed W (‵ (R .own t (u ∷ [])) ∷ (‵ (flft κ q) ⊛ ‵ ftrue) ∷ ‵ Own ∷ []) ∵
-      suffices ! _ (ends-at 𝓤 H A first.ended stayed (first.clauses 𝓤 H A mem run) W (((κ, tt), (q, tt), tt, (s, (n, tt)), at), tt) u t (tt, (tt, tt)) (tt, (tt, tt))) $ says ! e $
-      move ! (1 ∷ []) $ frame ! $ nothing ! $ owned ! K.the-row (Is K.the-row) (LL.makes K.the-type K′.the-plain 𝓤 H A) n _ is-n $ fjoin ! $ move ! (2 ∷ 0 ∷ []) $ fjoin ! $ frame ! $ done !
+      suffices ! _ (ends-at 𝓤 H A first.ended stayed (first.clauses 𝓤 H A mem run) W (((κ, tt), (q, tt), tt, (s, (b, tt)), at), tt) u t (tt, (tt, tt)) (tt, (tt, tt))) $ says ! e $
+      move ! (1 ∷ []) $ frame ! $ nothing ! $ owned ! K.the-row (Is K.the-row) (LL.makes K.the-type K′.the-plain 𝓤 H A) b _ is-b $ fjoin ! $ move ! (2 ∷ 0 ∷ []) $ fjoin ! $ frame ! $ done !
 
   module _ (C : Calls 𝓤 H) (Λ : Loops 𝓤 H) (fm : FmC 𝓤 H (W .laws) C) (known-new : Triple 𝓤 (C #from) (New 𝓤 H A mem run)) (known-read : Triple 𝓤 (C #read-atom) (Read 𝓤 H A mem run)) (known-rest : Triple 𝓤 (C #rest) (Rest 𝓤 H A mem run)) where
-    walk : Is R s (v ∷ []) → ent 𝓤 (onEntry 𝓤 H A first.signature (κ, tt) (q, tt) (s, (n, tt)) at) (WpFn 𝓤 H C Λ code.function (v ∷ LL.val K.the-type K′.the-laws n ∷ []) Post)
+    walk : Is R s (v ∷ []) → ent 𝓤 (onEntry 𝓤 H A first.signature (κ, tt) (q, tt) (s, (b, tt)) at) (WpFn 𝓤 H C Λ code.function (v ∷ LL.val K.the-type K′.the-laws b ∷ []) Post)
     walk p =
-        qed W (raw (onEntry 𝓤 H A first.signature (κ, tt) (q, tt) (s, (n, tt)) at) ∷ []) ∵ enter ! C Λ code.function (v ∷ LL.val K.the-type K′.the-laws n ∷ []) _ $
-        alloc1 ! (λ l₀. alloc1 ! (λ l₁. alloc1 ! (λ l₂. alloc1 ! (λ l₃. alloc1 ! (λ l₄. alloc0 ! $ params1 ! $ pass1 ! (init ! 6 refl (shr-slice-lawful 𝓤 H A W (named 0) κ u8 .typed s (v ∷ []) p .0)) $ pass1 ! (init ! 4 refl (LL.lawful K.the-type K′.the-laws 𝓤 H A W .typed n _ is-n .0)) $ pass0 ! $
+        qed W (raw (onEntry 𝓤 H A first.signature (κ, tt) (q, tt) (s, (b, tt)) at) ∷ []) ∵ enter ! C Λ code.function (v ∷ LL.val K.the-type K′.the-laws b ∷ []) _ $
+        alloc1 ! (λ l₀. alloc1 ! (λ l₁. alloc1 ! (λ l₂. alloc1 ! (λ l₃. alloc1 ! (λ l₄. alloc0 ! $ params1 ! $ pass1 ! (init ! 6 refl (shr-slice-lawful 𝓤 H A W (named 0) κ u8 .typed s (v ∷ []) p .0)) $ pass1 ! (init ! 4 refl (LL.lawful K.the-type K′.the-laws 𝓤 H A W .typed b _ is-b .0)) $ pass0 ! $
         move ! (10 ∷ []) $ use1 W (raw (New 𝓤 H A mem run .pre to-new) ⊛ ‵ Own) goes-new $ split ! $
         calls-at ! fm (New 𝓤 H A mem run) known-new to-new (and-then ! (load ! (from ! (stop !)) (look ! 8 refl)) (no-more !)) (λ u.
         use1 W (later (some (λ (r : SliceReader). ((‵ (flft κ q) ⊛ ‵ ftrue) ⊛ ‵ (B (κ, tt) .own r (u ∷ []))) ⊛ raw (ensured 𝓤 H A new.ended (new.clauses 𝓤 H A mem run) (κ, tt) (s, tt) tt r)))) (id⊢ 𝓤 _) $ await ! tt $ pick ! (λ r.
@@ -175,7 +175,7 @@ module _ {M : Type 1} (𝓤 : URA M) (H : Heap 𝓤) (A : Atoms 𝓤) (W : Given
         land ! (from ! (stop !)) (init ! 3 refl (LL.lawful (T.the-type αᵉ) (T′.the-laws αᵉ) 𝓤 H A W .typed r _ is .0)) $
         use2 W (raw (Read 𝓤 H A mem run .pre (to-read r u))) (goes-read r u) $
         calls-at ! fm (Read 𝓤 H A mem run) known-read (to-read r u) (and-then ! (load ! (from ! (stop !)) (look ! 2 refl)) (and-then ! (load ! (from ! (stop !)) (look ! 6 refl)) (no-more !))) (λ u′.
-        use1 W (later (some (λ (w : AtomRead). ((‵ (flft κ q) ⊛ ‵ ftrue) ⊛ ‵ (E (κ, tt) .own w (u′ ∷ []))) ⊛ raw (ensured 𝓤 H A read.ended (read.clauses 𝓤 H A mem run) (κ, tt) (r, (n, tt)) tt w)))) (id⊢ 𝓤 _) $ await ! tt $ pick ! (λ w.
+        use1 W (later (some (λ (w : AtomRead). ((‵ (flft κ q) ⊛ ‵ ftrue) ⊛ ‵ (E (κ, tt) .own w (u′ ∷ []))) ⊛ raw (ensured 𝓤 H A read.ended (read.clauses 𝓤 H A mem run) (κ, tt) (r, (b, tt)) tt w)))) (id⊢ 𝓤 _) $ await ! tt $ pick ! (λ w.
         split ! $ move ! (1 ∷ []) $ use1 W (raw (fact 𝓤 (Said r w))) (read-said r w) $ heard ! (Said r w) (λ e′. split ! $ move ! (1 ∷ []) $
         -- [what was read's; the token; the slice's; the locals, from the last on]
         peeks ! (E (κ, tt)) (Is (E (κ, tt))) (shows 𝓤 H A (E (κ, tt))) w (u′ ∷ []) (λ is′.
@@ -188,7 +188,7 @@ module _ {M : Type 1} (𝓤 : URA M) (H : Heap 𝓤) (A : Atoms 𝓤) (W : Given
         peeks ! R (Is R) (shows 𝓤 H A R) t (u″ ∷ []) (λ is″.
         land ! (from ! (stop !)) (init ! 11 refl (shr-slice-lawful 𝓤 H A W (named 0) κ u8 .typed t (u″ ∷ []) is″ .0)) $
         returns ! (look ! 11 refl) $ forget ! 3 refl $ forget ! 5 refl $ forget ! 7 refl $ forget ! 9 refl $ forget ! 11 refl $
-        move ! (11 ∷ 12 ∷ []) $ free1 ! $ move ! (9 ∷ 10 ∷ []) $ free1 ! $ move ! (7 ∷ 8 ∷ []) $ free1 ! $ move ! (5 ∷ 6 ∷ []) $ free1 ! $ move ! (3 ∷ 4 ∷ []) $ free1 ! $ free0 ! $ by ! (exits t u″ (left-is s (r .«data») t n w e e′ e″)))))))))))))))))))
+        move ! (11 ∷ 12 ∷ []) $ free1 ! $ move ! (9 ∷ 10 ∷ []) $ free1 ! $ move ! (7 ∷ 8 ∷ []) $ free1 ! $ move ! (5 ∷ 6 ∷ []) $ free1 ! $ move ! (3 ∷ 4 ∷ []) $ free1 ! $ free0 ! $ by ! (exits t u″ (left-is s (r .«data») t b w e e′ e″)))))))))))))))))))
 
 module _ {M : Type 1} (𝓤 : URA M) (H : Heap 𝓤) (A : Atoms 𝓤) (W : Given 𝓤 H A) (mem : Memory → SProp 𝓤) (run : Routine → Fun 𝓤) where
   walks : (C : Calls 𝓤 H) (Λ : Loops 𝓤 H) → FmC 𝓤 H (W .laws) C → Triple 𝓤 (C #from) (New 𝓤 H A mem run) → Triple 𝓤 (C #read-atom) (Read 𝓤 H A mem run) → Triple 𝓤 (C #rest) (Rest 𝓤 H A mem run)
