@@ -1,7 +1,7 @@
 -- What the reads leave of a slice. Document 01: refusals 7 and 6 of a number read leave the reader as it was; after refusal 4
 -- of a string read nothing is left; a read that is taken leaves what stands after it.
 use mathlib.Core.Path.{_≡_, refl, _∙_, ap}
-use mathlib.Core.Bool.{Bool, true, false}
+use mathlib.Core.Bool.{true, false}
 use mathlib.Core.List.{List, [], _∷_}
 use Prim.Native.Nat.{ℕ, _+_, _≤_, _<_}
 use native.Mathlib.Omega.{arith}

@@ -1,2 +1,3 @@
 pub mod Shut
 pub mod Leaves
+pub mod One

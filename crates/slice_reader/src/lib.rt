@@ -216,6 +216,33 @@ impl<'a> IntegerRead<'a> {
     }
 }
 
+impl<'a> FloatRead<'a> {
+    // The slice still to be read after a float.
+    pub fn rest(self) -> &'a [u8]
+        ensures { λ r. ⌜ r ≡ self .entry .reader .«data» ⌝ }
+    {
+        self.reader.data
+    }
+}
+
+impl<'a> StringRead<'a> {
+    // The slice still to be read after a string.
+    pub fn rest(self) -> &'a [u8]
+        ensures { λ r. ⌜ r ≡ self .entry .reader .«data» ⌝ }
+    {
+        self.reader.data
+    }
+}
+
+impl<'a> AtomRead<'a> {
+    // The slice still to be read after an atom.
+    pub fn rest(self) -> &'a [u8]
+        ensures { λ r. ⌜ r ≡ self .entry .reader .«data» ⌝ }
+    {
+        self.reader.data
+    }
+}
+
 // The bytes that a reader of the whole slice has to read.
 pub fn len_of(data: &[u8]) -> usize
     ensures { λ r. ⌜ r ≡ length (now («data» .entry)) ⌝ }
@@ -235,4 +262,25 @@ pub fn rest_after_integer(data: &[u8], kind: Kind, count: u64) -> &[u8]
     ensures { λ r. ⌜ LeftOf («data» .entry) (integerPlace (integerGiven (now («data» .entry)) kind count)) r ⌝ }
 {
     SliceReader::from(data).read_integer(kind, count).rest()
+}
+
+// The slice that a reader has still to read once it has read a float.
+pub fn rest_after_float(data: &[u8], kind: Kind, count: u64) -> &[u8]
+    ensures { λ r. ⌜ LeftOf («data» .entry) (floatPlace (floatGiven (now («data» .entry)) kind count)) r ⌝ }
+{
+    SliceReader::from(data).read_float(kind, count).rest()
+}
+
+// The slice that a reader has still to read once it has read a string.
+pub fn rest_after_string(data: &[u8], length: u64) -> &[u8]
+    ensures { λ r. ⌜ LeftOf («data» .entry) (stringPlace (stringGiven (now («data» .entry)) length)) r ⌝ }
+{
+    SliceReader::from(data).buffered_read_bytes(length).rest()
+}
+
+// The slice that a reader has still to read once it has read an atom.
+pub fn rest_after_atom(data: &[u8], budget: Budget) -> &[u8]
+    ensures { λ r. ⌜ LeftOf («data» .entry) (atomPlace (atomGiven (now («data» .entry)) budget)) r ⌝ }
+{
+    SliceReader::from(data).read_atom(budget).rest()
 }

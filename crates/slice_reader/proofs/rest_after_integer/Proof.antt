@@ -1,7 +1,7 @@
 -- `slice_reader::rest_after_integer` meets its contract: a walk of its MIR, by hand. The reader that `from` returns is passed to `read_integer`, and what that returns to `rest`. All that the proof knows of the three is that each meets its contract.
 -- The machine values that they return are stored and passed on as they are. In a local of a body MIR erases the lifetime of a struct's type, so each is shown to have the type at `erased`: what a struct owns does not say the lifetime's name.
 -- Assumes nothing.
-use mathlib.Core.Path.{_≡_, refl, ap, _∙_, subst}
+use mathlib.Core.Path.{_≡_, refl}
 use Prim.Native.Nat.{ℕ}
 use mathlib.Core.List.{List, [], _∷_}
 use lib.ListN.{length}

@@ -1,7 +1,7 @@
 -- `slice_reader_main::main` meets its contract: each check follows from what the functions of `slice_reader` ensure, and the
 -- law of what an integer of one byte leaves of one byte.
-use mathlib.Core.Path.{_≡_, refl, _∙_, ap}
-use mathlib.Core.List.{List, [], _∷_}
+use mathlib.Core.Path.{_∙_, ap}
+use mathlib.Core.List.{List}
 use Prim.Native.Nat.{ℕ}
 use lib.Dec.{eqb}
 use lib.ListN.{length}

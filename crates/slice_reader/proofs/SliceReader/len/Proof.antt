@@ -1,6 +1,6 @@
 -- `SliceReader::len` meets its contract: a walk of its MIR, by hand. The slice's length is read from the reader.
 -- Assumes nothing.
-use mathlib.Core.Path.{_≡_, refl}
+use mathlib.Core.Path.{refl}
 use Prim.Native.Nat.{ℕ, _<_, _^_}
 use mathlib.Core.List.{[], _∷_}
 use lib.Dec.{T as Holds}
