@@ -23,6 +23,12 @@ use Rattle.slice_reader.proofs.len_of as len-of
 use Rattle.slice_reader.proofs.len_of.Reads as len-of-reads
 use Rattle.slice_reader.proofs.rest_after_integer as rest-after-integer
 use Rattle.slice_reader.proofs.rest_after_integer.Reads as rest-after-integer-reads
+use Rattle.slice_reader.proofs.rest_after_float as rest-after-float
+use Rattle.slice_reader.proofs.rest_after_float.Reads as rest-after-float-reads
+use Rattle.slice_reader.proofs.rest_after_string as rest-after-string
+use Rattle.slice_reader.proofs.rest_after_string.Reads as rest-after-string-reads
+use Rattle.slice_reader.proofs.rest_after_atom as rest-after-atom
+use Rattle.slice_reader.proofs.rest_after_atom.Reads as rest-after-atom-reads
 use Rattle.slice_reader.proofs.string_at_start as string-at-start
 use Rattle.slice_reader.proofs.string_at_start.Reads as string-at-start-reads
 use borrow.Fn.World.{ArgsD, ResD}
@@ -66,3 +72,12 @@ is-empty-of-one κs a r₁ r₂ s₁ s₂ p q = (p ∙ sym q, refl)
 
 pub rest-after-integer-one : (κs : Lfts (rest-after-integer.ended .signature .lifetimes)) (a : ArgsD rest-after-integer.signature κs) (r₁ r₂ : ResD rest-after-integer.signature κs) (s₁ s₂ : AtExit rest-after-integer.ended κs) → rest-after-integer-reads.Post κs a r₁ s₁ → rest-after-integer-reads.Post κs a r₂ s₂ → (ptr r₁ ≡ ptr r₂) × (now r₁ ≡ now r₂)
 rest-after-integer-one κs a r₁ r₂ s₁ s₂ p q = (p .1 ∙ sym (q .1), p .0 ∙ sym (q .0))
+
+pub rest-after-float-one : (κs : Lfts (rest-after-float.ended .signature .lifetimes)) (a : ArgsD rest-after-float.signature κs) (r₁ r₂ : ResD rest-after-float.signature κs) (s₁ s₂ : AtExit rest-after-float.ended κs) → rest-after-float-reads.Post κs a r₁ s₁ → rest-after-float-reads.Post κs a r₂ s₂ → (ptr r₁ ≡ ptr r₂) × (now r₁ ≡ now r₂)
+rest-after-float-one κs a r₁ r₂ s₁ s₂ p q = (p .1 ∙ sym (q .1), p .0 ∙ sym (q .0))
+
+pub rest-after-string-one : (κs : Lfts (rest-after-string.ended .signature .lifetimes)) (a : ArgsD rest-after-string.signature κs) (r₁ r₂ : ResD rest-after-string.signature κs) (s₁ s₂ : AtExit rest-after-string.ended κs) → rest-after-string-reads.Post κs a r₁ s₁ → rest-after-string-reads.Post κs a r₂ s₂ → (ptr r₁ ≡ ptr r₂) × (now r₁ ≡ now r₂)
+rest-after-string-one κs a r₁ r₂ s₁ s₂ p q = (p .1 ∙ sym (q .1), p .0 ∙ sym (q .0))
+
+pub rest-after-atom-one : (κs : Lfts (rest-after-atom.ended .signature .lifetimes)) (a : ArgsD rest-after-atom.signature κs) (r₁ r₂ : ResD rest-after-atom.signature κs) (s₁ s₂ : AtExit rest-after-atom.ended κs) → rest-after-atom-reads.Post κs a r₁ s₁ → rest-after-atom-reads.Post κs a r₂ s₂ → (ptr r₁ ≡ ptr r₂) × (now r₁ ≡ now r₂)
+rest-after-atom-one κs a r₁ r₂ s₁ s₂ p q = (p .1 ∙ sym (q .1), p .0 ∙ sym (q .0))
