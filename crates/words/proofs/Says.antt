@@ -6,7 +6,11 @@ use Rattle.types.specs.Refusals.{refusalNumber}
 use Rattle.types.specs.declared.Refusal.{Refusal}
 use Rattle.types.specs.declared.Wide.{Wide}
 use Rattle.words.specs.declared.IntegerWords.{IntegerWords}
-use Rattle.words.specs.Layout.{Said, datum, numberOf, wordsOf}
+use Rattle.words.specs.Layout.{Said, datum, numberOf, wordsOf, saidWord, saidRefused, saidNarrowed}
+use Rattle.types.specs.declared.Refusal.the-variants as R
+use Rattle.binary.specs.Conversions.{Narrowed, exact, lost, answer32}
+use Rattle.binary.specs.declared.Narrowed32.{Narrowed32}
+use Rattle.binary.specs.declared.Narrowed32.the-variants as N
 
 -- the number and the array are those of an equal answer
 pub tells : {s t : Said} → s ≡ t → (old : List ℕ) {new : List ℕ} {r : ℕ} → (r ≡ numberOf t old) × (new ≡ wordsOf t old) → (r ≡ numberOf s old) × (new ≡ wordsOf s old)
@@ -23,3 +27,19 @@ said n v e = ap (λ (x : Wide). record { variant = n; value = x }) e
 -- two parts at once
 pub both : {A B C : Type 0} (f : A → B → C) {a p : A} {b q : B} → a ≡ p → b ≡ q → f a b ≡ f p q
 both f d e = λ i. f (d i) (e i)
+
+-- what is said of the code's answer
+abbrev saidPattern : Narrowed32 → Said
+saidPattern (N.Pattern q) = saidWord q
+saidPattern N.None = saidRefused R.ImpreciseCastWouldLoseData
+
+-- a narrowing that is answered, and one that is not
+pub narrowed-said : (n : Narrowed) {q : ℕ} → answer32 n ≡ N.Pattern q → saidNarrowed n ≡ saidWord q
+unfolding saidNarrowed
+narrowed-said (exact q) e = ap saidPattern e
+narrowed-said lost e = ap saidPattern e
+
+pub lost-said : (n : Narrowed) → answer32 n ≡ N.None → saidNarrowed n ≡ saidRefused R.ImpreciseCastWouldLoseData
+unfolding saidNarrowed
+lost-said (exact q) e = ap saidPattern e
+lost-said lost e = ap saidPattern e

@@ -34,6 +34,14 @@ use Rattle.types.specs.declared.Written.the-variants as W
 use Rattle.words.specs.declared.IntegerWords.{IntegerWords}
 use Rattle.words.specs.declared.NucleusWords.{NucleusWords}
 use Rattle.cast.specs.Variants.{value, wideOf}
+use Rattle.types.specs.declared.AsInteger.{AsInteger}
+use Rattle.types.specs.declared.AsInteger.the-variants as In
+use Rattle.types.specs.declared.AsF32.{AsF32}
+use Rattle.types.specs.declared.AsF32.the-variants as F32
+use Rattle.types.specs.declared.AsF64.{AsF64}
+use Rattle.types.specs.declared.AsF64.the-variants as F64
+use Rattle.binary.specs.Conversions.{Narrowed, exact, lost}
+use Rattle.types.specs.declared.Refusal.the-variants as R
 use Rattle.binary.specs.Formats.{half, single}
 use Rattle.binary.specs.Conversions.{widened}
 
@@ -146,10 +154,6 @@ unfoldable pub saidWritten : Written → Said
 saidWritten (W.Count n) = says 0 n 0 0 0 0 0 0 0
 saidWritten (W.Refused r) = saidRefused r
 
--- a value in 128 bits: its low and its high word, of a signed one in two's complement
-abbrev pub saidWide : Wide → Said
-saidWide w = says 0 (w .lo) (w .hi) 0 0 0 0 0 0
-
 -- one word
 abbrev pub saidWord : ℕ → Said
 saidWord n = says 0 n 0 0 0 0 0 0 0
@@ -157,3 +161,27 @@ saidWord n = says 0 n 0 0 0 0 0 0 0
 -- an integer: its variant, its low and its high word
 abbrev pub saidInteger : Integer → Said
 saidInteger x = says 0 (variantCode x) (wideOf (value x) .lo) (wideOf (value x) .hi) 0 0 0 0 0
+
+-- a cast to an integer
+unfoldable pub saidAsInteger : AsInteger → Said
+saidAsInteger (In.Value x) = saidInteger x
+saidAsInteger (In.Refused r) = saidRefused r
+
+-- a cast to an integer of a known variant: the low and the high word of its value
+unfoldable pub saidCast : AsInteger → Said
+saidCast (In.Value x) = says 0 (wideOf (value x) .lo) (wideOf (value x) .hi) 0 0 0 0 0 0
+saidCast (In.Refused r) = saidRefused r
+
+-- casts to a float: its bits
+unfoldable pub saidAsF32 : AsF32 → Said
+saidAsF32 (F32.Value x) = saidWord (toBits binary32 x)
+saidAsF32 (F32.Refused r) = saidRefused r
+
+unfoldable pub saidAsF64 : AsF64 → Said
+saidAsF64 (F64.Value x) = saidWord (toBits binary64 x)
+saidAsF64 (F64.Refused r) = saidRefused r
+
+-- "`as_f32` of an F64 needs an equal value": its bits, or refusal 8
+unfoldable pub saidNarrowed : Narrowed → Said
+saidNarrowed (exact q) = saidWord q
+saidNarrowed lost = saidRefused R.ImpreciseCastWouldLoseData

@@ -7,7 +7,13 @@ ghost use lib.ListN.{length, drop};
 ghost use lib.IntN.{pos};
 ghost use Rattle.types.specs.Choice.{pick};
 ghost use Rattle.words.specs.Layout.{says, datum, numberOf, wordsOf, integerWords, valueBits, nucleusWords, floatWords};
-ghost use Rattle.words.specs.Layout.{saidAtom, saidSkipped, saidRan, saidTally, saidVersion, saidWritten, saidRefused, saidWide, saidWord, saidInteger};
+ghost use Rattle.words.specs.Layout.{saidAtom, saidSkipped, saidRan, saidTally, saidVersion, saidWritten, saidRefused, saidWord, saidInteger, saidAsInteger, saidCast, saidAsF32, saidAsF64, saidNarrowed};
+ghost use Rattle.binary.specs.Formats.{single, double};
+ghost use Rattle.binary.specs.Conversions.{narrowed};
+use binary::Narrowed32;
+use types::AsF32;
+use types::AsF64;
+use types::AsInteger;
 use types::AtomAnswer;
 use types::Float;
 use types::Integer;
@@ -444,4 +450,76 @@ pub fn say_integer(words: &mut [u64], x: Integer) -> u64
         0,
         0,
     )
+}
+
+// A cast to an integer.
+pub fn say_as_integer(words: &mut [u64], answer: AsInteger) -> u64
+    ensures { λ r. ⌜ r ≡ numberOf (saidAsInteger answer) (now (words .entry)) ⌝ }
+    ensures { λ r. ⌜ now (words .exit) ≡ wordsOf (saidAsInteger answer) (now (words .entry)) ⌝ }
+{
+    match answer {
+        AsInteger::Value(x) => return say_integer(words, x),
+        AsInteger::Refused(refusal) => return say_refused(words, refusal),
+    }
+}
+
+// A cast to an integer of a known variant.
+pub fn say_cast(words: &mut [u64], answer: AsInteger) -> u64
+    ensures { λ r. ⌜ r ≡ numberOf (saidCast answer) (now (words .entry)) ⌝ }
+    ensures { λ r. ⌜ now (words .exit) ≡ wordsOf (saidCast answer) (now (words .entry)) ⌝ }
+{
+    match answer {
+        AsInteger::Value(x) => {
+            let said = integer_words(x);
+            return say(words, 0, said.value.lo, said.value.hi, 0, 0, 0, 0, 0, 0);
+        }
+        AsInteger::Refused(refusal) => return say_refused(words, refusal),
+    }
+}
+
+// One word.
+pub fn say_word(words: &mut [u64], word: u64) -> u64
+    ensures { λ r. ⌜ r ≡ numberOf (saidWord word) (now (words .entry)) ⌝ }
+    ensures { λ r. ⌜ now (words .exit) ≡ wordsOf (saidWord word) (now (words .entry)) ⌝ }
+{
+    say(words, 0, word, 0, 0, 0, 0, 0, 0, 0)
+}
+
+// A cast to an f32.
+pub fn say_as_f32(words: &mut [u64], answer: AsF32) -> u64
+    ensures { λ r. ⌜ r ≡ numberOf (saidAsF32 answer) (now (words .entry)) ⌝ }
+    ensures { λ r. ⌜ now (words .exit) ≡ wordsOf (saidAsF32 answer) (now (words .entry)) ⌝ }
+{
+    match answer {
+        AsF32::Value(x) => {
+            let bits = binary::f32_pattern(x);
+            return say_word(words, bits as u64);
+        }
+        AsF32::Refused(refusal) => return say_refused(words, refusal),
+    }
+}
+
+// A cast to an f64.
+pub fn say_as_f64(words: &mut [u64], answer: AsF64) -> u64
+    ensures { λ r. ⌜ r ≡ numberOf (saidAsF64 answer) (now (words .entry)) ⌝ }
+    ensures { λ r. ⌜ now (words .exit) ≡ wordsOf (saidAsF64 answer) (now (words .entry)) ⌝ }
+{
+    match answer {
+        AsF64::Value(x) => {
+            let bits = binary::f64_pattern(x);
+            return say_word(words, bits);
+        }
+        AsF64::Refused(refusal) => return say_refused(words, refusal),
+    }
+}
+
+// The bits of an f32 that equals an f64, given by its bits.
+pub fn say_narrowed(words: &mut [u64], bits: u64) -> u64
+    ensures { λ r. ⌜ r ≡ numberOf (saidNarrowed (narrowed double single bits)) (now (words .entry)) ⌝ }
+    ensures { λ r. ⌜ now (words .exit) ≡ wordsOf (saidNarrowed (narrowed double single bits)) (now (words .entry)) ⌝ }
+{
+    match binary::f64_to_f32_bits(bits) {
+        Narrowed32::Pattern(q) => return say_word(words, q as u64),
+        Narrowed32::None => return say_refused(words, Refusal::ImpreciseCastWouldLoseData),
+    }
 }
