@@ -4,12 +4,12 @@ use std::io;
 
 use crate::error::Error;
 use crate::format::{self, read_atom, Atom, InnerFloat, InnerInteger, Kind, Nucleus, Special};
-use crate::proved::Writer;
+use crate::proved::{Way, Writer};
 use crate::reader::{IoReader, Reader, SliceReader};
 use crate::{Found, Tally};
 
 /// A word into the checksum.
-fn fold(sum: u64, word: u64) -> u64 {
+pub fn fold(sum: u64, word: u64) -> u64 {
     (sum << 1) ^ (sum >> 63) ^ word
 }
 
@@ -143,6 +143,74 @@ pub fn tally_filled(source: &[u8], scratch: &mut Vec<u8>) -> Result<Tally, Error
 /// A letter is a string byte outside 0x80 to 0xBF.
 fn count_letters(bytes: &[u8]) -> u64 {
     bytes.iter().filter(|byte| !(0x80..=0xbf).contains(*byte)).count() as u64
+}
+
+/// One atom behind the boundary that the library's exports have: 0 or 4, the refusal of a cut file, and eight words. The
+/// stored bits of a float, which the original does not keep, are left 0.
+#[inline(never)]
+pub fn read_one(
+    source: &[u8],
+    place: usize,
+    budget: u64,
+    scratch: &mut Vec<u8>,
+    way: Way,
+    words: &mut [u64; 8],
+) -> u64 {
+    let rest = &source[place.min(source.len())..];
+    match way {
+        Way::Filled => say(source, SliceReader::from(rest), budget, scratch, words),
+        Way::ExactLent | Way::ExactCopied => say(source, IoReader::new(rest), budget, scratch, words),
+    }
+}
+
+fn say<'a>(
+    source: &'a [u8],
+    mut reader: impl Source<'a>,
+    budget: u64,
+    scratch: &mut Vec<u8>,
+    words: &mut [u64; 8],
+) -> u64 {
+    let mut budget = budget as usize;
+    let Ok(atom) = read_atom(&mut reader, &mut budget, scratch) else {
+        return 4;
+    };
+    let place = source.len() - reader.left();
+    let [case, first, second, third] = nucleus_words(&atom, place, scratch);
+    *words = [place as u64, budget as u64, atom.kind as u64, atom.arg, case, first, second, third];
+    0
+}
+
+/// The case of what an atom holds, and three words, as the exports lay them.
+fn nucleus_words(atom: &Atom<'_>, place: usize, scratch: &[u8]) -> [u64; 4] {
+    let integer = |variant: u64, value: i128| [2, variant, value as u64, (value >> 64) as u64];
+    match &atom.nucleus {
+        None => [0; 4],
+        Some(Nucleus::Boolean(value)) => [1, u64::from(*value), 0, 0],
+        Some(Nucleus::Integer(value)) => match value.0 {
+            InnerInteger::I8(value) => integer(0, value.into()),
+            InnerInteger::I16(value) => integer(1, value.into()),
+            InnerInteger::I32(value) => integer(2, value.into()),
+            InnerInteger::I64(value) => integer(3, value.into()),
+            InnerInteger::I128(value) => integer(4, value),
+            InnerInteger::U8(value) => integer(5, value.into()),
+            InnerInteger::U16(value) => integer(6, value.into()),
+            InnerInteger::U32(value) => integer(7, value.into()),
+            InnerInteger::U64(value) => integer(8, value.into()),
+            InnerInteger::U128(value) => integer(9, value as i128),
+        },
+        Some(Nucleus::Float(float)) => match float.0 {
+            InnerFloat::F64(value) => [3, 8, value.to_bits(), 0],
+            InnerFloat::F32(value) => [3, 4, u64::from(value.to_bits()), 0],
+        },
+        Some(Nucleus::Bytes(bytes)) => {
+            let length = bytes.as_slice(scratch).len();
+            [4, (place - length) as u64, length as u64, 1]
+        }
+        Some(Nucleus::Unit) => [5, 0, 0, 0],
+        Some(Nucleus::Named) => [6, 0, 0, 0],
+        Some(Nucleus::DynamicMap) => [7, 0, 0, 0],
+        Some(Nucleus::DynamicEnd) => [8, 0, 0, 0],
+    }
 }
 
 /// Writes values of two words each, low and high, one after another: the same loop as on the other side.

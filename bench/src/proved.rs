@@ -112,3 +112,56 @@ pub fn write(writer: Writer, text: &[u8], values: &[[u64; 2]], out: &mut [u8]) -
         )
     }
 }
+
+// The library's own exports, `crates/exports`: each answers 0 or a refusal's number, and eight words.
+extern "C" {
+    fn pot_read_atom(
+        source: *const u8,
+        source_len: usize,
+        place: usize,
+        budget: u64,
+        words: *mut u64,
+        words_len: usize,
+    ) -> u64;
+    fn pot_read_atom_exact(
+        source: *const u8,
+        source_len: usize,
+        place: usize,
+        budget: u64,
+        words: *mut u64,
+        words_len: usize,
+    ) -> u64;
+    fn pot_read_atom_copied(
+        source: *const u8,
+        source_len: usize,
+        place: usize,
+        budget: u64,
+        scratch: *mut u8,
+        scratch_len: usize,
+        words: *mut u64,
+        words_len: usize,
+    ) -> u64;
+}
+
+/// One atom through the exports.
+pub fn read_one(
+    source: &[u8],
+    place: usize,
+    budget: u64,
+    scratch: &mut [u8],
+    way: Way,
+    words: &mut [u64; 8],
+) -> u64 {
+    let (at, length) = (source.as_ptr(), source.len());
+    // SAFETY: each pointer comes with the length of its own live slice, and the mutable ones are distinct.
+    unsafe {
+        match way {
+            Way::Filled => pot_read_atom(at, length, place, budget, words.as_mut_ptr(), 8),
+            Way::ExactLent => pot_read_atom_exact(at, length, place, budget, words.as_mut_ptr(), 8),
+            Way::ExactCopied => {
+                let (room, size) = (scratch.as_mut_ptr(), scratch.len());
+                pot_read_atom_copied(at, length, place, budget, room, size, words.as_mut_ptr(), 8)
+            }
+        }
+    }
+}

@@ -5,7 +5,7 @@ use std::cell::RefCell;
 use crate::inputs::{self, Draw};
 use crate::proved::{Way, Writer};
 use crate::timing::Race;
-use crate::{original, proved};
+use crate::{original, proved, Found};
 
 const BUDGET: u64 = u64::MAX;
 
@@ -30,19 +30,65 @@ fn file(race: &mut Race, name: &str, source: &[u8]) {
     race.row(name, "tally, Rust filled", atoms, tally, || proved::tally(source).ok());
 }
 
+/// A file atom by atom, a call for each, the original behind the same boundary as the library's exports. The words that the
+/// two lay alike are folded: of a copied string its length alone.
+fn boundary(race: &mut Race, name: &str, source: &[u8]) {
+    let atoms = proved::run(source, BUDGET).expect("the file is whole").atoms as usize;
+    let theirs = RefCell::new(Vec::new());
+    let ours = RefCell::new(vec![0; 1 << 16]);
+    for (what, way) in
+        [("filled", Way::Filled), ("exact, lent", Way::ExactLent), ("exact, copied", Way::ExactCopied)]
+    {
+        let rust = || {
+            let scratch = &mut theirs.borrow_mut();
+            whole(source, way, |place, budget, words| original::read_one(source, place, budget, scratch, way, words))
+        };
+        let library = || {
+            let scratch = &mut ours.borrow_mut();
+            whole(source, way, |place, budget, words| proved::read_one(source, place, budget, scratch, way, words))
+        };
+        race.row(name, &format!("a call an atom, {what}"), atoms, rust, library);
+    }
+}
+
+/// Asks for atom after atom until the end, and folds the words of each.
+#[inline(always)]
+fn whole(source: &[u8], way: Way, mut read: impl FnMut(usize, u64, &mut [u64; 8]) -> u64) -> Option<Found> {
+    let (mut sum, mut atoms, mut place, mut budget) = (0, 0, 0, BUDGET);
+    let mut words = [0; 8];
+    while place < source.len() {
+        if read(place, budget, &mut words) != 0 {
+            return None;
+        }
+        let [next, left, kind, arg, case, first, second, third] = words;
+        let copied = case == 4 && matches!(way, Way::ExactCopied);
+        let held = if copied { second } else { first ^ second ^ if case == 3 { 0 } else { third } };
+        sum = original::fold(sum, kind ^ arg ^ case ^ held);
+        atoms += 1;
+        (place, budget) = (next as usize, left);
+    }
+    Some(Found { sum, atoms, place: place as u64, budget })
+}
+
 /// Dictionaries of hyphenation patterns; the signature is not an atom.
 pub fn dictionaries(race: &mut Race, dictionaries: &[(String, Vec<u8>)]) {
     for (name, packed) in dictionaries {
         file(race, name, &packed[4..]);
+        boundary(race, name, &packed[4..]);
     }
 }
 
 pub fn files(race: &mut Race) -> std::io::Result<()> {
-    file(race, "small atoms", &inputs::small_atoms(100_000)?);
-    file(race, "long strings", &inputs::long_strings(1_000)?);
-    file(race, "integers", &inputs::integers(100_000)?);
-    file(race, "16-byte integers", &inputs::wide_integers(100_000)?);
-    file(race, "floats", &inputs::floats(100_000)?);
+    for (name, source) in [
+        ("small atoms", inputs::small_atoms(100_000)?),
+        ("long strings", inputs::long_strings(500)?),
+        ("integers", inputs::integers(100_000)?),
+        ("16-byte integers", inputs::wide_integers(100_000)?),
+        ("floats", inputs::floats(100_000)?),
+    ] {
+        file(race, name, &source);
+        boundary(race, name, &source);
+    }
     Ok(())
 }
 
@@ -112,5 +158,7 @@ pub fn writers(race: &mut Race) {
     writer(race, "write_f64", Writer::F64, &[], &drawn(23, |draw| float(draw).to_bits()));
     let text = b"Donaudampfschiffahrtsgesellschaft".repeat(40);
     writer(race, "write_bytes, 1 to 12", Writer::Bytes, &text, &drawn(24, |draw| 1 + draw.below(12)));
-    writer(race, "write_bytes, about 1 KB", Writer::Bytes, &text, &drawn(25, |draw| 800 + draw.below(400)));
+    let mut long = drawn(25, |draw| 800 + draw.below(400));
+    long.truncate(500);
+    writer(race, "write_bytes, about 1 KB", Writer::Bytes, &text, &long);
 }
