@@ -1,22 +1,16 @@
--- What the writers' exports rest on: with room for the words, the write's answer is said and the write is done; without, nothing.
+-- What the writers' exports rest on: with room for the words, the write's answer is said and the write is done.
 use mathlib.Core.Path.{_≡_, _∙_, sym, ap}
 use mathlib.Core.List.{List}
-use Prim.Native.Nat.{ℕ, _≤_, _<_}
+use Prim.Native.Nat.{ℕ, _≤_}
 use lib.ListN.{length}
-use borrow.Author.Tests.{le-ltb, lt-ltb}
-use Rattle.types.specs.declared.Written.{Written}
+use borrow.Author.Tests.{le-ltb}
 use Rattle.words.specs.Layout.{Said, numberOf, wordsOf, unlessShort}
 
--- too short an array of words
-pub short : (said : Said) (words old new : List ℕ) → length words < 8 → (9 ≡ numberOf said words) × (words ≡ wordsOf said words) × (old ≡ unlessShort words old new)
-short said words old new h = (simp (lt-ltb (length words) 8 h), simp (lt-ltb (length words) 8 h), simp (lt-ltb (length words) 8 h))
-
 -- what was said of the answer that came, and what the call did to the other buffer
-pub done : {A : Type 0} (said : A → Said) (words old : List ℕ) {answer stated : A} {content exit : List ℕ} {r : ℕ} {new : List ℕ} → 8 ≤ length words → answer ≡ stated → exit ≡ content → (r ≡ numberOf (said answer) words) × (new ≡ wordsOf (said answer) words) → (r ≡ numberOf (said stated) words) × (new ≡ wordsOf (said stated) words) × (exit ≡ unlessShort words old content)
+pub done : {A : Type 0} (said : A → Said) (words old : List ℕ) {answer stated : A} {content exit : List ℕ} {r : ℕ} {new : List ℕ} → 8 ≤ length words → answer ≡ stated → exit ≡ content → (r ≡ numberOf (said answer) words) × (new ≡ wordsOf (said answer) words) → (r ≡ numberOf (said stated) words) × ((new ≡ wordsOf (said stated) words) × (exit ≡ unlessShort words old content))
 done {A} said words old {answer} {stated} {content} {exit} h e f t = (
   t .0 ∙ ap (λ (x : A). numberOf (said x) words) e,
-  t .1 ∙ ap (λ (x : A). wordsOf (said x) words) e,
-  f ∙ sym (kept content),
+  (t .1 ∙ ap (λ (x : A). wordsOf (said x) words) e, f ∙ sym (kept content)),
 )
   where
     kept : (c : List ℕ) → unlessShort words old c ≡ c

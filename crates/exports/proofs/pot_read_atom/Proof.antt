@@ -23,7 +23,7 @@ same-length : tie.Need-same-length
 same-length c = search needs
 
 returns : tie.Need-returns
-returns c = let a = c .before .before .before .before .before .before .before .before .before .args in tells (ap (λ (w : Way). saidAtom (atomRead w (now (a .source)) (a .place) (record { 0 = a .budget }) [])) (sym (c .before .before .before .before .before .unnamed .ensures))) (now (a .words)) (c .before .before .before .read-by .ensures .0, c .before .before .before .read-by .ensures .1)
+returns c = let a = c .before .before .before .before .before .before .before .before .before .args in tells (ap (λ (w : Way). saidAtom (atomRead w (now (a .source)) (a .place) (record { 0 = a .budget }) [])) (sym (c .before .before .before .before .before .unnamed .ensures))) (now (a .words)) (c .before .before .before .read-by .ensures .0, c .before .before .before .read-by .ensures .1 .0)
 
 pub pot-read-atom-spec : {M : Type 1} → statement M
 pot-read-atom-spec = tie.close (tie.spec slice-aggregate-read-by unnamed-requires read-by-requires same-length returns)

@@ -1,13 +1,14 @@
 -- `exports::read_by` meets its contract: with room for the words, the atom is read and said.
 use denote.Ref.{now}
 use Rattle.words.specs.Layout.{saidAtom}
-use Rattle.exports.proofs.Wrote.{short, done}
+use borrow.Author.Tests.{lt-ltb}
+use Rattle.exports.proofs.Wrote.{done}
 use borrow.Author.Needs.{needs}
 use Rattle.exports.proofs.read_by.Statement.{statement}
 use Rattle.exports.proofs.read_by.Tie as tie
 
 returns : tie.Need-returns
-returns c = let a = c .before .before .before .before .args in short _ (now (a .words)) (now (a .scratch)) _ (c .if1 .taken)
+returns c = (simp (lt-ltb _ _ (c .if1 .taken)), (simp (lt-ltb _ _ (c .if1 .taken)), simp (lt-ltb _ _ (c .if1 .taken))))
 
 read-atom-by-requires : tie.Need-read-atom-by-requires
 read-atom-by-requires c κs = search needs
