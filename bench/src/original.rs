@@ -4,7 +4,9 @@ use std::io;
 
 use crate::error::Error;
 use crate::format::{self, read_atom, Atom, InnerFloat, InnerInteger, Kind, Nucleus, Special};
-use crate::proved::{Way, Writer};
+#[cfg(feature = "exports")]
+use crate::proved::Way;
+use crate::proved::Writer;
 use crate::reader::{IoReader, Reader, SliceReader};
 use crate::{Found, Tally};
 
@@ -147,6 +149,7 @@ fn count_letters(bytes: &[u8]) -> u64 {
 
 /// One atom behind the boundary that the library's exports have: 0 or 4, the refusal of a cut file, and eight words. The
 /// stored bits of a float, which the original does not keep, are left 0.
+#[cfg(feature = "exports")]
 #[inline(never)]
 pub fn read_one(
     source: &[u8],
@@ -163,6 +166,7 @@ pub fn read_one(
     }
 }
 
+#[cfg(feature = "exports")]
 fn say<'a>(
     source: &'a [u8],
     mut reader: impl Source<'a>,
@@ -181,6 +185,7 @@ fn say<'a>(
 }
 
 /// The case of what an atom holds, and three words, as the exports lay them.
+#[cfg(feature = "exports")]
 fn nucleus_words(atom: &Atom<'_>, place: usize, scratch: &[u8]) -> [u64; 4] {
     let integer = |variant: u64, value: i128| [2, variant, value as u64, (value >> 64) as u64];
     match &atom.nucleus {

@@ -114,6 +114,7 @@ pub fn write(writer: Writer, text: &[u8], values: &[[u64; 2]], out: &mut [u8]) -
 }
 
 // The library's own exports, `crates/exports`: each answers 0 or a refusal's number, and eight words.
+#[cfg(feature = "exports")]
 extern "C" {
     fn pot_read_atom(
         source: *const u8,
@@ -144,6 +145,7 @@ extern "C" {
 }
 
 /// One atom through the exports.
+#[cfg(feature = "exports")]
 pub fn read_one(
     source: &[u8],
     place: usize,

@@ -5,7 +5,9 @@ use std::cell::RefCell;
 use crate::inputs::{self, Draw};
 use crate::proved::{Way, Writer};
 use crate::timing::Race;
-use crate::{original, proved, Found};
+#[cfg(feature = "exports")]
+use crate::Found;
+use crate::{original, proved};
 
 const BUDGET: u64 = u64::MAX;
 
@@ -32,6 +34,7 @@ fn file(race: &mut Race, name: &str, source: &[u8]) {
 
 /// A file atom by atom, a call for each, the original behind the same boundary as the library's exports. The words that the
 /// two lay alike are folded: of a copied string its length alone.
+#[cfg(feature = "exports")]
 fn boundary(race: &mut Race, name: &str, source: &[u8]) {
     let atoms = proved::run(source, BUDGET).expect("the file is whole").atoms as usize;
     let theirs = RefCell::new(Vec::new());
@@ -51,7 +54,12 @@ fn boundary(race: &mut Race, name: &str, source: &[u8]) {
     }
 }
 
+/// Without the exports these rows are left out.
+#[cfg(not(feature = "exports"))]
+fn boundary(_: &mut Race, _: &str, _: &[u8]) {}
+
 /// Asks for atom after atom until the end, and folds the words of each.
+#[cfg(feature = "exports")]
 #[inline(always)]
 fn whole(source: &[u8], way: Way, mut read: impl FnMut(usize, u64, &mut [u64; 8]) -> u64) -> Option<Found> {
     let (mut sum, mut atoms, mut place, mut budget) = (0, 0, 0, BUDGET);

@@ -1,7 +1,7 @@
 // Test machinery: whole files read and many values written in one call, for the race against the original in `bench/`.
 // Every value read is folded into a checksum that the original's side folds alike. It is proved to be safe and to end,
 // not to be right: the race compares what the two sides answer.
-ghost use Prim.Native.Nat.{_≤_, _<_};
+ghost use Prim.Native.Nat.{_≤_};
 use types::Atom;
 use types::AtomAnswer;
 use types::Budget;
@@ -109,19 +109,9 @@ fn way_of(code: u64) -> Way {
     }
 }
 
-// The place after an atom, or the end if it were not past the atom's start: by this test the loop is seen to end.
-fn onward(at: usize, next: usize, end: usize) -> usize
-    requires { ⌜ at < end ⌝ }
-    ensures { λ r. ⌜ at < r ⌝ }
-{
-    if at < next {
-        return next;
-    }
-    end
-}
-
 // Reads every atom of a file under a way: 0 filled, 1 exact and lent, 2 exact and copied. Answers a refusal's number or 0,
-// and the checksum, the number of atoms, the place and the budget.
+// and the checksum, the number of atoms, the place and the budget. (No atom is empty: the test is there for the proof that
+// the loop ends.)
 #[no_mangle]
 pub extern "C" fn loop_read(
     source: &[u8],
@@ -138,9 +128,13 @@ pub extern "C" fn loop_read(
     while at < source.len() {
         match atom::read_atom_by(source, Place(at), Budget(left), scratch, way) {
             AtomAnswer::Read(place, rest, atom) => {
+                let next = place.0;
+                if next <= at {
+                    return 99;
+                }
                 sum = fold(sum, atom_word(source, scratch, atom));
                 atoms += 1;
-                at = onward(at, place.0, source.len());
+                at = next;
                 left = rest.0;
             }
             AtomAnswer::Refused(place, rest, refusal) => {

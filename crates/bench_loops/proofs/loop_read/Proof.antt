@@ -25,14 +25,20 @@ read-atom-by-requires c κs = search needs
 enum-known-place : tie.Need-enum-known-place Inv-loop μ-loop
 enum-known-place c = search needs
 
+same-length : tie.Need-same-length Inv-loop μ-loop
+same-length c = search needs
+
+same-length-2 : tie.Need-same-length-2 Inv-loop μ-loop
+same-length-2 c = search needs
+
+returns : tie.Need-returns Inv-loop μ-loop
+returns c = search needs
+
 atom-word-requires : tie.Need-atom-word-requires Inv-loop μ-loop
 atom-word-requires c κs = search needs
 
 fold-requires : tie.Need-fold-requires Inv-loop μ-loop
 fold-requires c κs = search needs
-
-onward-requires : tie.Need-onward-requires Inv-loop μ-loop
-onward-requires c κs = search needs
 
 add-atoms : tie.Need-add-atoms Inv-loop μ-loop
 add-atoms c = search needs
@@ -52,18 +58,6 @@ answer4-requires c κs = search needs
 number-requires : tie.Need-number-requires Inv-loop μ-loop
 number-requires c κs = search needs
 
-same-length : tie.Need-same-length Inv-loop μ-loop
-same-length c = search needs
-
-same-length-2 : tie.Need-same-length-2 Inv-loop μ-loop
-same-length-2 c = search needs
-
-returns : tie.Need-returns Inv-loop μ-loop
-returns c = search needs
-
-answer4-requires-2 : tie.Need-answer4-requires-2 Inv-loop μ-loop
-answer4-requires-2 c κs = search needs
-
 same-length-3 : tie.Need-same-length-3 Inv-loop μ-loop
 same-length-3 c = search needs
 
@@ -72,6 +66,18 @@ same-length-4 c = search needs
 
 returns-2 : tie.Need-returns-2 Inv-loop μ-loop
 returns-2 c = search needs
+
+answer4-requires-2 : tie.Need-answer4-requires-2 Inv-loop μ-loop
+answer4-requires-2 c κs = search needs
+
+same-length-5 : tie.Need-same-length-5 Inv-loop μ-loop
+same-length-5 c = search needs
+
+same-length-6 : tie.Need-same-length-6 Inv-loop μ-loop
+same-length-6 c = search needs
+
+returns-3 : tie.Need-returns-3 Inv-loop μ-loop
+returns-3 c = search needs
 
 pub loop-read-spec : {M : Type 1} → statement M
 loop-read-spec =
@@ -83,19 +89,21 @@ loop-read-spec =
     loop-holds
     read-atom-by-requires
     enum-known-place
+    same-length
+    same-length-2
+    returns
     atom-word-requires
     fold-requires
     add-atoms
-    onward-requires
     loop-less
     loop-again
     enum-known-place-2
     answer4-requires
     number-requires
-    same-length
-    same-length-2
-    returns
-    answer4-requires-2
     same-length-3
     same-length-4
-    returns-2)
+    returns-2
+    answer4-requires-2
+    same-length-5
+    same-length-6
+    returns-3)
