@@ -2,8 +2,9 @@
 // number"; format.rs, `write_special` to `write_bytes`, and `Integer::write_to`. A writer of a number tries the next
 // smaller one first, so that it writes the smallest count that holds the value.
 ghost use mathlib.Core.Path.{_≡_};
-ghost use Prim.Native.Nat.{_≤_};
-ghost use lib.ListN.{length};
+ghost use mathlib.Core.List.{_++_};
+ghost use Prim.Native.Nat.{_≤_, _+_};
+ghost use lib.ListN.{length, drop};
 ghost use lib.Signed.{mag};
 ghost use Rattle.types.specs.declared.Kind.the-variants.{Bytes};
 ghost use Rattle.types.specs.declared.Special.the-variants.{None, Unit, Named};
@@ -11,6 +12,7 @@ ghost use Rattle.lent.specs.Lent.{writtenAnswer, writtenContent};
 ghost use Rattle.header.specs.Header.{headerBytes};
 ghost use Rattle.little.specs.Counts.{holdsU, holdsS};
 ghost use Rattle.integer.specs.Integers.{wideBits};
+ghost use Rattle.writers.specs.Copies.{CopiedFour};
 ghost use Rattle.writers.specs.Bytes.{signedBytes, unsignedBytes, wideSigned, valueBytes, specialBytes, truth, bytesBytes, heldAnswer, heldContent};
 use types::Integer;
 use types::Kind;
@@ -287,6 +289,47 @@ fn header_length(arg: u64) -> usize
     count + 1
 }
 
+// Copies four bytes, all read before any is written.
+fn copy_four(out: &mut [u8], source: &[u8], i: usize)
+    requires { ⌜ (i + 4 ≤ length (now source)) × (length (now source) ≤ length (now out)) ⌝ }
+    ensures { λ r. ⌜ CopiedFour (now (source .entry)) i (now (out .entry)) (now (out .exit)) ⌝ }
+{
+    let first = source[i];
+    let second = source[i + 1];
+    let third = source[i + 2];
+    let fourth = source[i + 3];
+    out[i] = first;
+    out[i + 1] = second;
+    out[i + 2] = third;
+    out[i + 3] = fourth;
+}
+
+// Copies a string that has its room. A short one goes four bytes at a time, the last four over those before them, so that
+// few branches hang on its length.
+fn copy(out: &mut [u8], source: &[u8])
+    requires { ⌜ length (now source) ≤ length (now out) ⌝ }
+    ensures { λ r. ⌜ now (out .exit) ≡ now (source .entry) ++ drop (length (now (source .entry))) (now (out .entry)) ⌝ }
+{
+    let size = source.len();
+    if size < 4 {
+        lent::copy_in(out, source);
+        return;
+    }
+    if size < 9 {
+        copy_four(out, source, 0);
+        copy_four(out, source, size - 4);
+        return;
+    }
+    if size < 17 {
+        copy_four(out, source, 0);
+        copy_four(out, source, 4);
+        copy_four(out, source, size - 8);
+        copy_four(out, source, size - 4);
+        return;
+    }
+    lent::copy_in(out, source);
+}
+
 // Writes a string: its header, then its bytes. The room of both is judged before either is written.
 pub fn write_bytes(out: &mut [u8], value: &[u8]) -> Written
     ensures { λ r. ⌜ r ≡ writtenAnswer (bytesBytes (now (value .entry))) (now (out .entry)) ⌝ }
@@ -298,6 +341,6 @@ pub fn write_bytes(out: &mut [u8], value: &[u8]) -> Written
         return Written::Refused(Refusal::no_room(needed));
     }
     header::write_atom_header(out, Kind::Bytes, value.len() as u64);
-    lent::copy_in(&mut out[head..], value);
+    copy(&mut out[head..], value);
     Written::Count(needed)
 }

@@ -38,17 +38,17 @@ returns c =
 write-atom-header-requires : tie.Need-write-atom-header-requires
 write-atom-header-requires c κs = search needs
 
-sub-copy-in : tie.Need-sub-copy-in
-sub-copy-in c = search needs
+sub-copy : tie.Need-sub-copy
+sub-copy c = search needs
 
-part-copy-in-start : tie.Need-part-copy-in-start
-part-copy-in-start c = search needs
+part-copy-start : tie.Need-part-copy-start
+part-copy-start c = search needs
 
-part-copy-in-end : tie.Need-part-copy-in-end
-part-copy-in-end c = search needs
+part-copy-end : tie.Need-part-copy-end
+part-copy-end c = search needs
 
-copy-in-requires : tie.Need-copy-in-requires
-copy-in-requires c κs = search needs
+copy-requires : tie.Need-copy-requires
+copy-requires c κs = search needs
 
 same-length : tie.Need-same-length
 same-length c = search needs
@@ -63,7 +63,7 @@ returns-2 c =
     let n : c .before .before .before .before .before .before .before .before .before .header-length .result + length v ≡ length (head ++ v) = ap (λ (k : ℕ). k + length v) e ∙ sym (length-append head v) in
     let room : length (head ++ v) ≤ length old = omega arith in
     let both : length head + length v ≤ length old = omega arith in
-    (ap W.Count n ∙ sym (answer-room (head ++ v) old room), headed-at (c .before .before .before .before .before .before .before .before .before .header-length .result) head v old (c .before .before .before .before .before .before .write-atom-header .last .0) (c .before .before .copy-in .last .0) e both (c .before .before .before .before .before .before .write-atom-header .ensures .1) (c .before .before .copy-in .ensures))
+    (ap W.Count n ∙ sym (answer-room (head ++ v) old room), headed-at (c .before .before .before .before .before .before .before .before .before .header-length .result) head v old (c .before .before .before .before .before .before .write-atom-header .last .0) (c .before .before .copy .last .0) e both (c .before .before .before .before .before .before .write-atom-header .ensures .1) (c .before .before .copy .ensures))
 
 pub write-bytes-spec : {M : Type 1} → statement M
 write-bytes-spec =
@@ -74,9 +74,9 @@ write-bytes-spec =
     no-room-requires
     returns
     write-atom-header-requires
-    sub-copy-in
-    part-copy-in-start
-    part-copy-in-end
-    copy-in-requires
+    sub-copy
+    part-copy-start
+    part-copy-end
+    copy-requires
     same-length
     returns-2)

@@ -1,0 +1,71 @@
+-- A string copied in parts that may overlap: each byte goes where the source has it, so that a second copy changes nothing.
+use mathlib.Core.Path.{_≡_, refl, _∙_, sym, ap}
+use mathlib.Core.Bool.{Bool, true, false}
+use mathlib.Core.List.{List, _++_}
+use Prim.Native.Nat.{ℕ, _+_, _-_, _≤_, _<_}
+use native.Mathlib.Omega.{arith}
+use lib.Dec.{leb}
+use lib.ListN.{length, take, drop, set, getD, List·getD-append}
+use lib.Seq.{getD-take, length-take-le, set-getD}
+use borrow.Author.Tests.{leb-true, leb-false}
+use Rattle.lent.proofs.Stores.{copy-more, copy-done}
+use Rattle.writers.specs.Copies.{Front, CopiedFour}
+
+module _ (s d : List ℕ) (most : ℕ) (room : length s ≤ length d) (within : most ≤ length s) where
+  -- a byte that is there already
+  again : (i n : ℕ) → i < n → n ≤ most → set (take n s ++ drop n d) i (getD s i 0) ≡ take n s ++ drop n d
+  again i n h k =
+      let m : length (take n s) ≡ n = length-take-le n s (omega arith) in
+      let e : getD (take n s ++ drop n d) i 0 ≡ getD s i 0 = List·getD-append (take n s) (drop n d) 0 i (omega arith) ∙ getD-take n s i 0 h in
+      ap (λ (v : ℕ). set (take n s ++ drop n d) i v) (sym e) ∙ set-getD (take n s ++ drop n d) i 0
+
+  byte-at : (i : ℕ) (x : List ℕ) → i < most → (f : Front s d i most x) → (t : Bool) → leb (i + 1) (f .count) ≡ t → Front s d (i + 1) most (set x i (getD s i 0))
+  byte-at i x h f true e =
+      let k = leb-true (i + 1) (f .count) e in
+      record { count = f .count; enough = k; inside = f .inside; same = ap (λ (l : List ℕ). set l i (getD s i 0)) (f .same) ∙ again i (f .count) (omega arith) (f .inside) }
+  byte-at i x h f false e =
+      let k = leb-false (i + 1) (f .count) e in
+      let g = f .enough in
+      let c : f .count ≡ i = omega arith in
+      record { count = i + 1; enough = omega arith; inside = omega arith; same = ap (λ (l : List ℕ). set l i (getD s i 0)) (f .same ∙ ap (λ (n : ℕ). take n s ++ drop n d) c) ∙ copy-more d s i (omega arith) room }
+
+  -- fewer are asked for
+  pub fewer : (i j : ℕ) (x : List ℕ) → j ≤ i → Front s d i most x → Front s d j most x
+  fewer i j x h f = let g = f .enough in record { count = f .count; enough = omega arith; inside = f .inside; same = f .same }
+
+  -- a byte more
+  pub byte : (i j : ℕ) (x : List ℕ) → j ≡ i + 1 → i < most → Front s d i most x → Front s d j most (set x i (getD s i 0))
+  byte i j x e h f = fewer (i + 1) j (set x i (getD s i 0)) (omega arith) (byte-at i x h f (leb (i + 1) (f .count)) refl)
+
+-- nothing is copied yet
+pub none : (s d : List ℕ) → Front s d 0 (length s) d
+none s d = record { count = 0; enough = omega arith; inside = omega arith; same = refl }
+
+-- all is copied
+pub all : (s d x : List ℕ) → Front s d (length s) (length s) x → x ≡ s ++ drop (length s) d
+all s d x f =
+    let g = f .enough in
+    let h = f .inside in
+    let c : f .count ≡ length s = omega arith in
+    f .same ∙ copy-done d s (f .count) c
+
+-- A short string, four bytes at a time, the last four over those before them.
+module _ (s d : List ℕ) (room : length s ≤ length d) where
+  next : (i j : ℕ) (x y : List ℕ) → i ≤ j → i + 4 ≤ length s → CopiedFour s i x y → Front s d j (length s) x → Front s d (i + 4) (length s) y
+  next i j x y h k four f = four d (length s) room (omega arith) k (fewer s d (length s) room (omega arith) j i x h f)
+
+  last : (x y : List ℕ) (j : ℕ) → 4 ≤ length s → length s ≤ j + 4 → CopiedFour s (length s - 4) x y → Front s d j (length s) x → y ≡ s ++ drop (length s) d
+  last x y j h k four f =
+      all s d y (fewer s d (length s) room (omega arith) (length s - 4 + 4) (length s) y (omega arith) (next (length s - 4) j x y (omega arith) (omega arith) four f))
+
+  -- up to 8 bytes
+  pub twice : (x y : List ℕ) → 4 ≤ length s → length s ≤ 8 → CopiedFour s 0 d x → CopiedFour s (length s - 4) x y → y ≡ s ++ drop (length s) d
+  twice x y h k a b = last x y 4 h (omega arith) b (next 0 0 d x (omega arith) h a (none s d))
+
+  -- up to 16
+  pub four-times : (w x y z : List ℕ) → 8 ≤ length s → length s ≤ 16 → CopiedFour s 0 d w → CopiedFour s 4 w x → CopiedFour s (length s - 8) x y → CopiedFour s (length s - 4) y z → z ≡ s ++ drop (length s) d
+  four-times w x y z h k a b c e =
+      let f = next 0 0 d w (omega arith) (omega arith) a (none s d) in
+      let g = next 4 4 w x (omega arith) h b f in
+      let l = next (length s - 8) 8 x y (omega arith) (omega arith) c g in
+      last y z (length s - 8 + 4) (omega arith) (omega arith) e l

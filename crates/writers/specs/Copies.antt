@@ -1,0 +1,17 @@
+-- A string copied over itself in parts: what a buffer holds meanwhile.
+use Prim.Native.Nat.{ℕ, _+_, _≤_}
+use mathlib.Core.Path.{_≡_}
+use mathlib.Core.List.{List, _++_}
+use lib.ListN.{length, take, drop}
+
+-- a buffer whose first bytes, `least` of them or more and at most `most`, are the source's, and the others as they were
+pub record Front (source old : List ℕ) (least most : ℕ) (buffer : List ℕ) : Type 0 where
+  pub count : ℕ
+  pub enough : least ≤ count
+  pub inside : count ≤ most
+  pub same : buffer ≡ take count source ++ drop count old
+
+-- four bytes from i on are copied: where those before them are there, these are now too
+abbrev pub CopiedFour : List ℕ → ℕ → List ℕ → List ℕ → Type 0
+CopiedFour source i before after =
+    (old : List ℕ) (most : ℕ) → length source ≤ length old → most ≤ length source → i + 4 ≤ most → Front source old i most before → Front source old (i + 4) most after
