@@ -15,5 +15,6 @@ pub mod Dictionary
 pub mod SliceReader
 pub mod Report
 pub mod Exactly
+pub mod Demand1
 pub mod Demand2
 pub mod Starred
