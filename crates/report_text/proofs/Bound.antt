@@ -21,9 +21,10 @@ use Rattle.types.specs.declared.TallyAnswer.{TallyAnswer}
 use Rattle.types.specs.declared.TallyAnswer.the-variants as TA
 use Rattle.types.specs.declared.VersionAnswer.{VersionAnswer}
 use Rattle.types.specs.declared.VersionAnswer.the-variants as VA
+use Rattle.types.specs.declared.Written.{Written}
 use Rattle.types.specs.declared.Written.the-variants as WR
-use Rattle.lent.specs.Lent.{writtenAnswer}
-use Rattle.lent.proofs.Stores.{answer-room}
+use Rattle.lent.specs.Lent.{writtenAnswer, writtenContent}
+use Rattle.lent.proofs.Stores.{answer-room, content-room}
 use Rattle.header.specs.Header.{headerKind, headerLength}
 use Rattle.header.specs.Signature.{versionRead, versionFrom, judged, everyBit, bigEndian, signature}
 use Rattle.dictionary.specs.Letters.{letters}
@@ -173,3 +174,25 @@ text-most file = judged-most file (ltb mostFileBytes (length file)) refl
 -- so that a buffer of that length has its room
 pub text-room : (file old : List ℕ) → 79 ≤ length old → writtenAnswer (reportText (reportOf file)) old ≡ WR.Count (length (reportText (reportOf file)))
 text-room file old h = let m = text-most file in answer-room (reportText (reportOf file)) old (omega arith)
+
+-- what is answered where there is that room, and what stands in the buffer
+module _ (file old : List ℕ) (h : 79 ≤ length old) where
+  pub room-count : (n : ℕ) → writtenAnswer (reportText (reportOf file)) old ≡ WR.Count n → n ≡ length (reportText (reportOf file))
+  room-count n e = ap countOf (sym e ∙ text-room file old h)
+    where
+      countOf : Written → ℕ
+      countOf (WR.Count n) = n
+      countOf (WR.Refused r) = 0
+
+  pub room-taken : (r : Refusal) → writtenAnswer (reportText (reportOf file)) old ≡ WR.Refused r → ⊥
+  room-taken r e =
+      let no : WR.Count (length (reportText (reportOf file))) ≡ WR.Refused r = sym (text-room file old h) ∙ e in
+      let z : _≡_ {A = ℕ} 0 1 = cc in
+      omega arith
+
+  pub room-holds : (new : List ℕ) → new ≡ writtenContent (reportText (reportOf file)) old → length (reportText (reportOf file)) ≤ length new
+  room-holds new e =
+      let text : List ℕ = reportText (reportOf file) in
+      let m = text-most file in
+      let n : length new ≡ length text + length (drop (length text) old) = ap length (e ∙ content-room text old (omega arith)) ∙ length-append text (drop (length text) old) in
+      omega arith

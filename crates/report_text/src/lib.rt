@@ -4,6 +4,7 @@ ghost use mathlib.Core.Path.{_≡_};
 ghost use mathlib.Core.List.{_++_};
 ghost use Prim.Native.Nat.{_≤_, _+_};
 ghost use lib.ListN.{length, take};
+ghost use Rattle.io.specs.Counts.{Counts};
 ghost use Rattle.lent.specs.Lent.{writtenAnswer, writtenContent};
 ghost use Rattle.report.specs.Reports.{reportOf};
 ghost use Rattle.report_text.specs.Texts.{decimal, line, tallyText, countedText, refusedText, reportText};
@@ -97,4 +98,16 @@ pub fn write_report(file: &[u8], out: &mut [u8]) -> Written
     let mut text = [0u8; 190];
     let count = put_report(&mut text, file);
     lent::put_all(out, &text[..count])
+}
+
+// Writes the text into a buffer that has room for every file's, and answers its length.
+pub fn report_into(file: &[u8], out: &mut [u8; 79]) -> usize
+    ensures { λ r. ⌜ Counts r (now (out .exit)) ⌝ }
+    ensures { λ r. ⌜ r ≡ length (reportText (reportOf (now (file .entry)))) ⌝ }
+    ensures { λ r. ⌜ now (out .exit) ≡ writtenContent (reportText (reportOf (now (file .entry)))) (now (out .entry)) ⌝ }
+{
+    match write_report(file, out) {
+        Written::Count(length) => return length,
+        Written::Refused(_) => return 0,
+    }
 }
