@@ -2,9 +2,9 @@
 -- was tallied are bounded by its bytes, which demand 3 shows of a list of atoms.
 use mathlib.Core.Path.{_≡_, refl, _∙_, sym, ap, subst}
 use mathlib.Core.Bool.{Bool, true, false}
-use mathlib.Core.List.{List, [], _∷_, _++_}
-use mathlib.Core.Logic.{_⊎_, inl, inr, ⊎-elim}
-use Prim.Native.Nat.{ℕ, suc, _+_, _-_, _*_, _%_, _^_, _≤_, _<_}
+use mathlib.Core.List.{List, _++_}
+use mathlib.Core.Logic.{⊎-elim}
+use Prim.Native.Nat.{ℕ, suc, _+_, _%_, _^_, _≤_, _<_}
 use native.Mathlib.Omega.{arith}
 use lib.Dec.{ltb, leb}
 use lib.ListN.{length, drop, length-append, length-drop}
@@ -29,7 +29,7 @@ use Rattle.header.specs.Header.{headerKind, headerLength}
 use Rattle.header.specs.Signature.{versionRead, versionFrom, judged, everyBit, bigEndian, signature}
 use Rattle.dictionary.specs.Letters.{letters}
 use Rattle.dictionary.specs.Wholes.{isString, IsAtom, bodyBytes, lettersIn, Atoms, none, more, total}
-use Rattle.dictionary.specs.Runs.{tallyAll, mostBytes}
+use Rattle.dictionary.specs.Runs.{tallyAll}
 use Rattle.dictionary.proofs.Letters.{letters-most}
 use Rattle.dictionary.proofs.Price.{atoms-most, price-body, priced, tally-priced, Broken, Made, tally-broken}
 use Rattle.dictionary.proofs.Price as price
@@ -166,7 +166,7 @@ judged-most : (file : List ℕ) (t : Bool) → ltb mostFileBytes (length file) �
 judged-most file true e = refused-most R.TooLong 0 (omega arith)
 judged-most file false e = signed-most file (versionRead W.ExactLent file 0) (ltb-false mostFileBytes (length file) e) (version-small file)
 
--- THE TEXT OF EVERY FILE HAS AT MOST 79 BYTES
+-- THE TEXT OF EVERY FILE HAS AT MOST 79 BYTES; `tally_cases` runs a file whose text has so many
 pub text-most : (file : List ℕ) → length (reportText (reportOf file)) ≤ 79
 unfolding reportOf
 text-most file = judged-most file (ltb mostFileBytes (length file)) refl

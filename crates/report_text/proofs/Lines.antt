@@ -1,6 +1,6 @@
 -- A text that grows at its end: bytes put behind its first ones, and one part after another.
 use mathlib.Core.Path.{_≡_, refl, _∙_, sym, ap}
-use mathlib.Core.List.{List, [], _∷_, _++_, append-assoc}
+use mathlib.Core.List.{List, _++_, append-assoc}
 use Prim.Native.Nat.{ℕ, _+_, _-_, _≤_}
 use native.Mathlib.Omega.{arith}
 use lib.ListN.{length, take, drop, length-append}
@@ -19,3 +19,7 @@ appended old bytes filled at h e =
 -- a part, and then another
 pub follows : {b c : List ℕ} (a x y : List ℕ) → b ≡ a ++ x → c ≡ b ++ y → c ≡ a ++ (x ++ y)
 follows {b} {c} a x y e f = f ∙ ap (λ (l : List ℕ). l ++ y) e ∙ append-assoc a x y
+
+-- the same part, said otherwise
+pub is-part : {b : List ℕ} (a x y : List ℕ) → x ≡ y → b ≡ a ++ x → b ≡ a ++ y
+is-part a x y e f = f ∙ ap (λ (l : List ℕ). a ++ l) e

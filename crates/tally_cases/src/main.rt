@@ -26,7 +26,7 @@ fn run_filled(name: &[u8], byte: u8, count: usize)
     requires { ⌜ count ≤ 65537 ⌝ }
 {
     let mut file = filled(byte);
-    header::write_header(&mut file, 7);
+    header::write_header(&mut file, 107);
     run(name, &file[0..count]);
 }
 
@@ -65,7 +65,7 @@ fn run_long() {
     run_filled(b"integers of 3 bytes", 0x22, 65536);
     run_filled(b"last of them cut", 0x22, 65535);
     run_filled(b"integers of 6 bytes", 0x25, 65531);
-    run_filled(b"strings of 1 byte", 0xE1, 65536);
+    run_filled(b"strings of 1 byte, the longest text", 0xE1, 65536);
     run_filled(b"eleven units", 0x01, 15);
 }
 

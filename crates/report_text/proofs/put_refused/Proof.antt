@@ -1,12 +1,11 @@
 -- `report_text::put_refused` meets its contract: three lines, one after the other, from the text's start.
-use mathlib.Core.Path.{_∙_, ap}
-use mathlib.Core.List.{List, [], _++_}
-use Prim.Native.Nat.{ℕ}
+use mathlib.Core.Path.{ap}
+use mathlib.Core.List.{[]}
 use native.Mathlib.Omega.{arith}
 use lib.ListN.{take}
 use Rattle.types.specs.Refusals.{refusalNumber}
 use Rattle.report_text.specs.Texts.{ascii, line, refusedText}
-use Rattle.report_text.proofs.Lines.{follows}
+use Rattle.report_text.proofs.Lines.{follows, is-part}
 use borrow.Author.Needs.{needs}
 use Rattle.report_text.proofs.put_refused.Statement.{statement}
 use Rattle.report_text.proofs.put_refused.Tie as tie
@@ -40,11 +39,14 @@ unfolding refusedText
 returns c =
     let a = c .before .before .before .before .before .before .before .before .before .before .before .before .before .before .before .before .before .args in
     let ok = c .before .before .before .before .before .before .before .before .before .before .before .before .before .append-line in
-    let numbered = c .before .before .before .before .before .before .before .append-line2 in (
+    let number = c .before .before .before .before .before .before .before .before .number in
+    let numbered = c .before .before .before .before .before .before .before .append-line2 in
+    let front = take (ok .result) (ok .last .0) in
+    let refusal = line (ascii "refusal=") (refusalNumber (a .refusal)) in (
       omega arith,
       follows [] (line (ascii "ok=") 0) _ (ok .ensures .1)
-          (follows (take (ok .result) (ok .last .0)) (line (ascii "refusal=") (refusalNumber (a .refusal))) (line (ascii "at=") (a .start .0))
-          (numbered .ensures .1 ∙ ap (λ (n : ℕ). take (ok .result) (ok .last .0) ++ line (ascii "refusal=") n) (c .before .before .before .before .before .before .before .before .number .ensures))
+          (follows front refusal (line (ascii "at=") (a .start .0))
+          (is-part front (line (ascii "refusal=") (number .result)) refusal (ap (line (ascii "refusal=")) (number .ensures)) (numbered .ensures .1))
           (c .before .before .append-line3 .ensures .1)),
     )
 

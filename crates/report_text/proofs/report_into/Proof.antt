@@ -1,5 +1,5 @@
 -- `report_text::report_into` meets its contract: its buffer has the room that the longest text takes, so that nothing is refused.
-use mathlib.Core.Path.{_≡_, _∙_, sym}
+use mathlib.Core.Path.{_∙_, sym}
 use Prim.Native.Nat.{_≤_}
 use native.Mathlib.Omega.{arith}
 use denote.Ref.{now}
