@@ -14,6 +14,7 @@ pub mod Atom
 pub mod Dictionary
 pub mod SliceReader
 pub mod Report
+pub mod ReportText
 pub mod Exactly
 pub mod Demand1
 pub mod Demand2
