@@ -105,9 +105,9 @@ from-header way s budget scratch at end kind arg true x e f header h = rw h (aft
 from-header way s budget scratch at end kind arg false true e f header h = rw h (four-in-header f)
 from-header way s budget scratch at end kind arg false false e f header h = rw h (after-header way s budget scratch (endOf s) arg kind (le-refl (length s)))
 
--- DEMAND 1: an atom is read, or refused by a row of the table
-pub demand1 : (way : Way) (s : List ℕ) (place : ℕ) (budget : Budget) (scratch : List ℕ) → Row way s budget scratch (headerRead way s place) (atomRead way s place budget scratch) (atomScratch way s place budget scratch)
+-- THE TABLE: an atom is read, or refused by a row of the table
+pub refused-by-the-table : (way : Way) (s : List ℕ) (place : ℕ) (budget : Budget) (scratch : List ℕ) → Row way s budget scratch (headerRead way s place) (atomRead way s place budget scratch) (atomScratch way s place budget scratch)
 unfolding atomRead atomScratch headerFrom
-demand1 way s place budget scratch =
+refused-by-the-table way s place budget scratch =
     let at : ℕ = placeIn (length s) place in
     from-header way s budget scratch at (at + headerLength (drop at s)) (headerKind (drop at s)) (headerArgument (drop at s)) (leb (at + headerLength (drop at s)) (length s)) (exact way) refl refl (headerRead way s place) refl

@@ -18,4 +18,5 @@ pub mod ReportText
 pub mod Exactly
 pub mod Demand1
 pub mod Demand2
+pub mod Demands
 pub mod Starred
