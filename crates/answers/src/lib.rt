@@ -25,6 +25,12 @@ pub fn answer(request: &[u8], bytes: &mut [u8], scratch: &mut [u8], out: &mut [u
         0x23..=0x25 => {
             return answer_strings::answer(number, request, cursor, bytes, scratch, out);
         }
+        0x26 | 0x2B => {
+            return answer_slices::answer(number, request, cursor, bytes, out);
+        }
+        0x29 | 0x2A => {
+            return answer_dictionary::answer(number, request, cursor, bytes, out);
+        }
         0x30..=0x3D | 0x3F | 0x40..=0x49 => {
             return answer_casts::answer(number, request, cursor, out);
         }
