@@ -133,38 +133,6 @@ fn report(name: &[u8], text: &[u8], bytes: &mut [u8], scratch: &mut [u8], out: &
     }
 }
 
-// Writes a request and its answer as a vector, and `-` for an answer that there is none.
-fn write_vector(request: &[u8], bytes: &mut [u8], scratch: &mut [u8], out: &mut [u8]) {
-    let reply = answers::answer(request, bytes, scratch, out);
-    io::write_all(STDOUT_FILENO, request);
-    io::write_all(STDOUT_FILENO, b" = ");
-    if reply.good {
-        io::write_all(STDOUT_FILENO, wire::first(out, reply.at));
-    } else {
-        io::write_all(STDOUT_FILENO, b"-");
-    }
-    io::write_all(STDOUT_FILENO, b"\n");
-}
-
-// Writes the vector of every request of a text.
-fn write_vectors(text: &[u8], bytes: &mut [u8], scratch: &mut [u8], out: &mut [u8]) {
-    let mut at = 0;
-    while at < text.len() {
-        write_vector(wire::line_at(text, at), bytes, scratch, out);
-        at = wire::next_line(text, at);
-    }
-}
-
-// Answers the requests on standard input, at most 65,536 bytes.
-pub fn ask() {
-    let mut text = io::large_buffer();
-    let count = io::read_full(STDIN_FILENO, &mut text);
-    let mut bytes = [0u8; 1024];
-    let mut scratch = [0u8; 1024];
-    let mut out = [0u8; 2048];
-    write_vectors(&text[..count], &mut bytes, &mut scratch, &mut out);
-}
-
 // Whether a line is the heading of a topic: its name, and no vector.
 fn is_heading(line: &[u8]) -> bool {
     let vector = wire::split(line);
