@@ -1,3 +1,6 @@
 pub mod Shut
+pub mod Plain
+pub mod Answers
+pub mod Reading
 pub mod Leaves
 pub mod One
