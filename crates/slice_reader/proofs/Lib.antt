@@ -2,5 +2,6 @@ pub mod Shut
 pub mod Plain
 pub mod Answers
 pub mod Reading
+pub mod RestOf
 pub mod Leaves
 pub mod One

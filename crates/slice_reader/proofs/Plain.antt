@@ -43,12 +43,13 @@ pub record Plain (R : RattleType) : Type 2 where
   pub makes : {M : Type 1} (𝓤 : URA M) (H : Heap 𝓤) (A : Atoms 𝓤) (W : Given 𝓤 H A) → Makes 𝓤 H A R (Is R)
   pub still : R .exit yes ≡ unchanged
 
-module _ (R : RattleType) (P : Plain R) where
+-- what is at exit as it was passed leaves nothing to say
+module _ (R : RattleType) (still : R .exit yes ≡ unchanged) where
   pub last : (x : R .Denot) → Last (R .exit yes) x
-  last x = subst (λ (e : Exit (R .Denot)). Last e x) (sym (P .still)) tt
+  last x = subst (λ (e : Exit (R .Denot)). Last e x) (sym still) tt
 
   pub silent : (x : R .Denot) (f : Last (R .exit yes) x) → left (R .exit yes) x f ≡ ftrue
-  silent x = subst (λ (e : Exit (R .Denot)). (f : Last e x) → left e x f ≡ ftrue) (sym (P .still)) (λ f. refl)
+  silent x = subst (λ (e : Exit (R .Denot)). (f : Last e x) → left e x f ≡ ftrue) (sym still) (λ f. refl)
 
 abbrev pub number : Plain u64
 number = record {
@@ -115,7 +116,7 @@ module _ (κs : Lfts 1) where
 
   abbrev pub lasts-of : (Ps : List Param) (a : Denots (Rows Ps)) → Fins κs (slots Ps) (kepts Ps) a
   lasts-of [] a = tt
-  lasts-of (P ∷ Ps) a = (last (P .type) (P .plain) (a .0), lasts-of Ps (a .1))
+  lasts-of (P ∷ Ps) a = (last (P .type) (P .plain .still) (a .0), lasts-of Ps (a .1))
 
   abbrev pub fits-of : (Ps : List Param) (a : Denots (Rows Ps)) → fitsOf κs (slots Ps) (kepts Ps) (stays Ps) a (lasts-of Ps a)
   fits-of [] a = tt
@@ -133,7 +134,7 @@ module _ {M : Type 1} (𝓤 : URA M) (H : Heap 𝓤) (A : Atoms 𝓤) (W : Given
 
   pub goes : (Ps : List Param) → AllGo 𝓤 H A W 1 (slots Ps) (kepts Ps) (stays Ps)
   goes [] = tt
-  goes (P ∷ Ps) = (goes-none 𝓤 H A W 1 (λ _. P .type) yes (λ κs x f. silent (P .type) (P .plain) x f), goes Ps)
+  goes (P ∷ Ps) = (goes-none 𝓤 H A W 1 (λ _. P .type) yes (λ κs x f. silent (P .type) (P .plain .still) x f), goes Ps)
 
 -- an answer's type and its laws, and the struct that holds it beside the reader
 pub record Beside : Type 2 where
@@ -183,3 +184,6 @@ module _ (X : Beside) where
 
     abbrev pub held-copy : LL.Copyables (held .parts)
     held-copy = (EL.field-copy (X .type) (X .copy), (T′.the-field-copy α, tt))
+
+    pub held-still : SD.row held .exit yes ≡ unchanged
+    held-still = LL.still held held-copy yes
