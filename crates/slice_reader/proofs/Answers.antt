@@ -1,8 +1,8 @@
--- The parameters of the reads, and the four answers with the structs that hold each beside the reader.
+-- The plain types of the functions over the reader, and the four answers with the structs that hold each beside the reader.
 use mathlib.Core.Path.{refl}
 use mathlib.Core.List.{[]}
 use mir.Syntax.{erased}
-use denote.Builtin.{u64}
+use denote.Builtin.{u64, usize, bool}
 use denote.Ref.{NamedLft}
 use Rattle.types.proofs.Kind as Kind
 use Rattle.types.proofs.Kind.Laws as Kind′
@@ -24,10 +24,16 @@ use Rattle.slice_reader.specs.declared.StringRead as StringRead
 use Rattle.slice_reader.proofs.StringRead as StringRead′
 use Rattle.slice_reader.specs.declared.AtomRead as AtomRead
 use Rattle.slice_reader.proofs.AtomRead as AtomRead′
-use Rattle.slice_reader.proofs.Plain.{Param, number, of-enum, of-struct, Beside}
+use Rattle.slice_reader.proofs.Plain.{Param, number, truth, of-enum, of-struct, Beside}
 
 abbrev pub count : Param
 count = record { type = u64; plain = number }
+
+abbrev pub size : Param
+size = record { type = usize; plain = number }
+
+abbrev pub yes-or-no : Param
+yes-or-no = record { type = bool; plain = truth }
 
 abbrev pub kind : Param
 kind = record { type = Kind.the-row; plain = of-enum Kind.the-type Kind′.the-laws tt Kind′.the-plain Kind′.the-copy }

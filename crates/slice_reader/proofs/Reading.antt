@@ -65,7 +65,7 @@ Carried x place s a r = (a ≡ x) × LeftOf s (place a) r
 abbrev slice-type : Ty
 slice-type = sliceTy (tyRef erased imm (tyInt w8))
 
-abbrev value : ℕ → Opd
+abbrev pub value : ℕ → Opd
 value i = copy (at-place i [])
 
 -- m is the number of the parameters, which are the locals from 2 on; then come the slice, the answer, what is left and its reader
@@ -75,7 +75,7 @@ read-body start left m params =
     (seq (assign (at-place (suc (suc (suc (suc (suc m))))) []) (aggregate (value (suc (suc (suc (suc m)))) ∷ []))) (seq (assign (at-place 0 []) (aggregate (value (suc (suc (suc m))) ∷ value (suc (suc (suc (suc (suc m))))) ∷ []))) return))))
 
 -- a local that is found
-at-local : {M : Type 1} {𝓤 : URA M} {H : Heap 𝓤} {A : Atoms 𝓤} {K : Type 0} {W : Given 𝓤 H A} {Γ : List (Item 𝓤)} {E : Env 𝓤 H} → K → {i : ℕ} {sp : Spot 𝓤 H} → spotOf 𝓤 H E i ≡ sp → Finds K W Γ E (at-place i []) sp
+pub at-local : {M : Type 1} {𝓤 : URA M} {H : Heap 𝓤} {A : Atoms 𝓤} {K : Type 0} {W : Given 𝓤 H A} {Γ : List (Item 𝓤)} {E : Env 𝓤 H} → K → {i : ℕ} {sp : Spot 𝓤 H} → spotOf 𝓤 H E i ≡ sp → Finds K W Γ E (at-place i []) sp
 at-local {𝓤 = 𝓤} {H = H} {K = K} {W = W} {Γ = Γ} {E = E} t {i} e = subst (λ (sp : Spot 𝓤 H). Finds K W Γ E (at-place i []) sp) e (from t (stop t))
 
 -- ---- the law
@@ -277,7 +277,7 @@ module _ (X : Beside) (Ps : List Param) where
           (λ κs qs bounds a g are. via 𝓤 _ (fst∗ 𝓤 _ (emp 𝓤)) (walk (κs .0) (qs .0) (a .0) (a .1) (are .1) (LL.lawful (T.the-type (namedLft 1 0 tt κs)) (T′.the-laws (namedLft 1 0 tt κs)) 𝓤 H A W .typed (a .0) _ (are .0) .0))))
 
 -- ---- the functions: a read of one parameter, and of two
-abbrev param-locals : List Param → List Local → List Local
+abbrev pub param-locals : List Param → List Local → List Local
 param-locals [] ls = ls
 param-locals (P ∷ Ps) ls = local (P .plain .type) valueLocal ∷ param-locals Ps ls
 
