@@ -22,14 +22,11 @@ use Rattle.slice_reader.specs.declared.IntegerRead.{IntegerRead}
 use Rattle.slice_reader.specs.declared.FloatRead.{FloatRead}
 use Rattle.slice_reader.specs.declared.StringRead.{StringRead}
 use Rattle.slice_reader.specs.declared.AtomRead.{AtomRead}
+use Rattle.slice_reader.proofs.Reading.{Carried}
 use Rattle.slice_reader.proofs.SliceReader.read_integer as read-integer
 use Rattle.slice_reader.proofs.SliceReader.read_float as read-float
 use Rattle.slice_reader.proofs.SliceReader.buffered_read_bytes as buffered-read-bytes
 use Rattle.slice_reader.proofs.SliceReader.read_atom as read-atom
-
--- the answer x, beside the part of s from the answer's place on
-abbrev pub Carried : {X : Type 0} → X → (X → ℕ) → RefT (List ℕ) → X → RefT (List ℕ) → Type 0
-Carried x place s a r = (a ≡ x) × LeftOf s (place a) r
 
 pub left-one : (s r₁ r₂ : RefT (List ℕ)) (p : ℕ) → LeftOf s p r₁ → LeftOf s p r₂ → (now r₁ ≡ now r₂) × (ptr r₁ ≡ ptr r₂)
 left-one s r₁ r₂ p e f = (e .0 ∙ sym (f .0), e .1 ∙ sym (f .1))

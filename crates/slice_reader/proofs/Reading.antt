@@ -23,21 +23,20 @@ use sound.WpLaws.{FmC, fmOf, WpFn-mono}
 use denote.RattleType.{RattleType, Denots, Valss, flat, owns}
 use denote.Laws.{Is, Ises, Are, shows}
 use denote.Builtin.{u8}
-use denote.Ref.{RefT, NamedLft, now}
-use denote.Signature.{Slot, plain, shrSliceOf, namedLft, typesAt}
+use denote.Ref.{RefT, now}
+use denote.Signature.{Slot, plain, shrSliceOf, namedLft}
 use denote.Slice.{sliceTy, sliceVal, ShrSlice, shr-slice-lawful, shr-slice-copy}
 use denote.Steps.{owned, peeks, heard, nothing}
 use denote.Struct.Declared as SD
 use denote.Struct.Laws as LL
 use denote.Struct.Rest.{all-own, ownAt, rest, own-open, own-out}
 use denote.Struct.Struct.{Struct, layout, struct-lawful}
-use denote.Struct.Values.{Values, intos}
+use denote.Struct.Values.{intos}
 use denote.Triple.Statement.{Contract, Triple}
 use denote.Triple.Call.{calls-at}
-use denote.Triple.Entry.{Vals, onEntry}
-use denote.Triple.End.{Kepts, Fins}
+use denote.Triple.Entry.{onEntry}
 use denote.Triple.Spec.{Meets, tripleOf}
-use denote.Triple.Walked.{says, Stays, stay-none, walkOf, fitsOf, hasOf, goes-none, Walks, ends-at, walked, walk-meets}
+use denote.Triple.Walked.{says, stay-none, walkOf, hasOf, goes-none, ends-at, walked, walk-meets}
 use denote.Exit.{yes}
 use denote.Triple.Clauses.{Ended, Clauses, closing, ensured, lasts}
 use Rattle.slice_reader.specs.Left.{LeftOf}
