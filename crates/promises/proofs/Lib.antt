@@ -16,6 +16,7 @@ pub mod SliceReader
 pub mod Report
 pub mod ReportText
 pub mod Exactly
+pub mod SameValue
 pub mod Demand1
 pub mod Demand2
 pub mod Demands
