@@ -14,6 +14,10 @@ pub mod Atom
 pub mod Dictionary
 pub mod SliceReader
 pub mod Report
+pub mod Words
+pub mod Recast
+pub mod Exports
+pub mod Laid
 pub mod Exactly
 pub mod Demand2
 pub mod Starred
