@@ -1,12 +1,12 @@
 -- A string copied in parts that may overlap: each byte goes where the source has it, so that a second copy changes nothing.
 use mathlib.Core.Path.{_≡_, refl, _∙_, sym, ap}
 use mathlib.Core.Bool.{Bool, true, false}
-use mathlib.Core.List.{List, _++_}
+use mathlib.Core.List.{List, _++_, append-assoc}
 use Prim.Native.Nat.{ℕ, _+_, _-_, _≤_, _<_}
 use native.Mathlib.Omega.{arith}
 use lib.Dec.{leb}
-use lib.ListN.{length, take, drop, set, getD, List·getD-append}
-use lib.Seq.{getD-take, length-take-le, set-getD}
+use lib.ListN.{length, take, drop, set, getD, length-drop, take-append-drop, List·getD-append}
+use lib.Seq.{getD-take, length-take-le, length-front, set-getD, take-at, drop-at, take-add, drop-drop, drop-append-le}
 use borrow.Author.Tests.{leb-true, leb-false}
 use Rattle.lent.proofs.Stores.{copy-more, copy-done}
 use Rattle.writers.specs.Copies.{Front, CopiedFour}
@@ -69,3 +69,30 @@ module _ (s d : List ℕ) (room : length s ≤ length d) where
       let g = next 4 4 w x (omega arith) h b f in
       let l = next (length s - 8) 8 x y (omega arith) (omega arith) c g in
       last y z (length s - 8 + 4) (omega arith) (omega arith) e l
+
+-- A long string, part by part: the part of a list of that count from a place on is `take count (drop place list)`.
+part-length : (l : List ℕ) (i n : ℕ) → i + n ≤ length l → length (take n (drop i l)) ≡ n
+part-length l i n h = length-take-le n (drop i l) (simp length-drop (omega arith))
+
+-- the room of a part
+pub part-fits : (s x : List ℕ) (i m n : ℕ) → m ≤ n → i + m ≤ length s → i + n ≤ length x → length (take m (drop i s)) ≤ length (take n (drop i x))
+part-fits s x i m n h k l =
+    let p : length (take m (drop i s)) ≡ m = part-length s i m k in
+    let q : length (take n (drop i x)) ≡ n = part-length x i n l in
+    omega arith
+
+-- the length of a buffer whose first bytes are copied
+pub front-length : (s d : List ℕ) (i : ℕ) → i ≤ length s → length s ≤ length d → length (take i s ++ drop i d) ≡ length d
+front-length s d i h k = length-front d (take i s) i (length-take-le i s h ∙ sym (length-take-le i d (omega arith)))
+
+-- a part more, copied into the part of the buffer at its place
+pub part-more : (s d x y : List ℕ) (i m n j : ℕ) → m ≤ n → j ≡ i + m → i + m ≤ length s → i + n ≤ length d → x ≡ take i s ++ drop i d → y ≡ take m (drop i s) ++ drop (length (take m (drop i s))) (take n (drop i x)) → take i x ++ (y ++ drop n (drop i x)) ≡ take j s ++ drop j d
+part-more s d x y i m n j h e k l is filled =
+    let front : length (take i s) ≡ i = length-take-le i s (omega arith) in
+    let before : take i x ≡ take i s = ap (take i) is ∙ take-at (take i s) (drop i d) i front in
+    let after : drop i x ≡ drop i d = ap (drop i) is ∙ drop-at (take i s) (drop i d) i front in
+    let part : y ≡ take m (drop i s) ++ drop m (take n (drop i d)) = filled ∙ rw (part-length s i m k, after) in
+    let within : m ≤ length (take n (drop i d)) = rw (part-length d i n l) h in
+    let rest : drop m (take n (drop i d)) ++ drop n (drop i d) ≡ drop m (drop i d) = sym (drop-append-le m (take n (drop i d)) (drop n (drop i d)) within) ∙ ap (drop m) (take-append-drop n (drop i d)) in
+    let whole : y ++ drop n (drop i d) ≡ take m (drop i s) ++ drop m (drop i d) = ap (λ (a : List ℕ). a ++ drop n (drop i d)) part ∙ append-assoc (take m (drop i s)) (drop m (take n (drop i d))) (drop n (drop i d)) ∙ ap (λ (a : List ℕ). take m (drop i s) ++ a) rest in
+    rw (before, after, whole, e, take-add i m s, append-assoc, ← drop-drop m i d)

@@ -286,6 +286,19 @@ fn copy_four(out: &mut [u8], source: &[u8], i: usize)
     out[i + 3] = fourth;
 }
 
+// Copies a long string that has its room, in blocks: one of a length known beforehand is compiled without a loop.
+fn copy_blocks(out: &mut [u8], source: &[u8])
+    requires { ⌜ length (now source) ≤ length (now out) ⌝ }
+    ensures { λ r. ⌜ now (out .exit) ≡ now (source .entry) ++ drop (length (now (source .entry))) (now (out .entry)) ⌝ }
+{
+    let mut i = 0;
+    while 256 <= source.len() - i {
+        lent::copy_in(&mut out[i..i + 256], &source[i..i + 256]);
+        i += 256;
+    }
+    lent::copy_in(&mut out[i..], &source[i..]);
+}
+
 // Copies a string that has its room. A short one goes four bytes at a time, the last four over those before them, so that
 // few branches hang on its length.
 fn copy(out: &mut [u8], source: &[u8])
@@ -309,7 +322,7 @@ fn copy(out: &mut [u8], source: &[u8])
         copy_four(out, source, size - 4);
         return;
     }
-    lent::copy_in(out, source);
+    copy_blocks(out, source);
 }
 
 // Writes a string: its header, then its bytes. The room of both is judged before either is written.

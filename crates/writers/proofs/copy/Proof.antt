@@ -52,8 +52,8 @@ returns-3 c =
     let a = c .before .before .before .before .before .before .before .before .before .before .before .before .before .before .before .before .before .before .before .before .before .args in
     four-times (now (a .source)) (now (a .out)) (omega arith) (c .before .before .before .before .before .before .before .before .before .before .before .before .before .before .copy-four3 .last .0) (c .before .before .before .before .before .before .before .before .before .before .copy-four4 .last .0) (c .before .before .before .before .before .before .copy-four5 .last .0) (c .before .before .copy-four6 .last .0) (omega arith) (omega arith) (c .before .before .before .before .before .before .before .before .before .before .before .before .before .before .copy-four3 .ensures) (c .before .before .before .before .before .before .before .before .before .before .copy-four4 .ensures) (c .before .before .before .before .before .before .copy-four5 .ensures) (c .before .before .copy-four6 .ensures)
 
-copy-in-requires-2 : tie.Need-copy-in-requires-2
-copy-in-requires-2 c κs = search needs
+copy-blocks-requires : tie.Need-copy-blocks-requires
+copy-blocks-requires c κs = search needs
 
 same-length-4 : tie.Need-same-length-4
 same-length-4 c = search needs
@@ -79,6 +79,6 @@ copy-spec =
     copy-four-requires-6
     same-length-3
     returns-3
-    copy-in-requires-2
+    copy-blocks-requires
     same-length-4
     returns-4)
