@@ -83,6 +83,7 @@ impl Judge {
             Answer::Given(after, outcome) => Some(said(after, outcome)),
             Answer::Skipped(Skip::Width) => Some(Said::refused(Refusal::ImpreciseCastWouldLoseData)),
             Answer::Skipped(Skip::Length) => None,
+            Answer::Several(_) => unreachable!("no sequence of reads is asked for"),
         }
     }
 

@@ -1,5 +1,5 @@
 //! The layout of the words, from this side: what the library writes for examples of document 01. The same answers stand in
-//! crates/promises/proofs/Layout.antt, where they are proved of the definitions.
+//! crates/promises/proofs/Laid.antt, where they are proved of the definitions.
 use dimewagon::ffi::*;
 
 const OLD: u64 = 77;

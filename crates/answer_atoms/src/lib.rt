@@ -58,7 +58,8 @@ fn refused(out: &mut [u8], reply: Reply, place: Place, budget: Budget, refusal: 
     wire::put_data(out, put, refusal)
 }
 
-fn put_answer(out: &mut [u8], reply: Reply, answer: AtomAnswer, scratch: &[u8]) -> Reply {
+// Puts what an atom read answered.
+pub fn put_answer(out: &mut [u8], reply: Reply, answer: AtomAnswer, scratch: &[u8]) -> Reply {
     match answer {
         AtomAnswer::Read(place, left, read) => {
             let placed = wire::taken_at(out, reply, place);

@@ -7,6 +7,19 @@ use types::Written;
 use wire::Cursor;
 use wire::Reply;
 
+// Puts what a float read of that many bytes answered.
+pub fn put_answer(out: &mut [u8], reply: Reply, answer: FloatAnswer, count: u64) -> Reply {
+    match answer {
+        FloatAnswer::Read(next, value, bits) => {
+            let placed = wire::taken_at(out, reply, next);
+            return wire_numbers::put_read_float(out, placed, value, count, bits);
+        }
+        FloatAnswer::Refused(next, refusal) => {
+            return wire::refused_at(out, reply, next, refusal);
+        }
+    }
+}
+
 fn read_from(text: &[u8], cursor: Cursor, bytes: &mut [u8], out: &mut [u8]) -> Reply {
     let kind = wire::read_kind(text, cursor);
     let size = wire::read_word(text, kind.cursor);
@@ -16,15 +29,8 @@ fn read_from(text: &[u8], cursor: Cursor, bytes: &mut [u8], out: &mut [u8]) -> R
     let count = asked.count;
     let place = asked.place;
     let way = asked.way;
-    match float::read_from(wanted, size.value, &bytes[0..count], place, way) {
-        FloatAnswer::Read(next, value, bits) => {
-            let placed = wire::taken_at(out, reply, next);
-            return wire_numbers::put_read_float(out, placed, value, size.value, bits);
-        }
-        FloatAnswer::Refused(next, refusal) => {
-            return wire::refused_at(out, reply, next, refusal);
-        }
-    }
+    let answer = float::read_from(wanted, size.value, &bytes[0..count], place, way);
+    put_answer(out, reply, answer, size.value)
 }
 
 // Writes a float by its bits.

@@ -4,6 +4,19 @@ use types::IntegerAnswer;
 use wire::Cursor;
 use wire::Reply;
 
+// Puts what an integer read answered.
+pub fn put_answer(out: &mut [u8], reply: Reply, answer: IntegerAnswer) -> Reply {
+    match answer {
+        IntegerAnswer::Read(next, value) => {
+            let placed = wire::taken_at(out, reply, next);
+            return wire_numbers::put_integer(out, placed, value);
+        }
+        IntegerAnswer::Refused(next, refusal) => {
+            return wire::refused_at(out, reply, next, refusal);
+        }
+    }
+}
+
 // Answers a request of this crate's code, which was read. `bytes` holds its source.
 pub fn answer(code: u64, text: &[u8], cursor: Cursor, bytes: &mut [u8], out: &mut [u8]) -> Reply {
     if code != 0x21 {
@@ -17,13 +30,6 @@ pub fn answer(code: u64, text: &[u8], cursor: Cursor, bytes: &mut [u8], out: &mu
     let count = asked.count;
     let place = asked.place;
     let way = asked.way;
-    match integer::read_from(wanted, size.value, &bytes[0..count], place, way) {
-        IntegerAnswer::Read(next, value) => {
-            let placed = wire::taken_at(out, reply, next);
-            return wire_numbers::put_integer(out, placed, value);
-        }
-        IntegerAnswer::Refused(next, refusal) => {
-            return wire::refused_at(out, reply, next, refusal);
-        }
-    }
+    let answer = integer::read_from(wanted, size.value, &bytes[0..count], place, way);
+    put_answer(out, reply, answer)
 }

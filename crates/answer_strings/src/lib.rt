@@ -7,6 +7,19 @@ use types::Way;
 use wire::Cursor;
 use wire::Reply;
 
+// Puts what a string read answered.
+pub fn put_answer(out: &mut [u8], reply: Reply, answer: BytesAnswer, scratch: &[u8]) -> Reply {
+    match answer {
+        BytesAnswer::Read(next, mark) => {
+            let placed = wire::taken_at(out, reply, next);
+            return wire::put_string(out, placed, mark, scratch);
+        }
+        BytesAnswer::Refused(next, refusal) => {
+            return wire::refused_at(out, reply, next, refusal);
+        }
+    }
+}
+
 fn buffered_read_bytes(
     text: &[u8],
     cursor: Cursor,
@@ -20,15 +33,9 @@ fn buffered_read_bytes(
     let count = asked.count;
     let place = asked.place;
     let way = asked.way;
-    match reader::buffered_read_bytes(&bytes[0..count], place, length.value, scratch, way) {
-        BytesAnswer::Read(next, mark) => {
-            let placed = wire::taken_at(out, reply, next);
-            return wire::put_string(out, placed, mark, scratch);
-        }
-        BytesAnswer::Refused(next, refusal) => {
-            return wire::refused_at(out, reply, next, refusal);
-        }
-    }
+    let source = &bytes[0..count];
+    let answer = reader::buffered_read_bytes(source, place, length.value, scratch, way);
+    put_answer(out, reply, answer, scratch)
 }
 
 // Puts what a raw read answered, with those bytes of the buffer that the request asks for.

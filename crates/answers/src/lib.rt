@@ -3,36 +3,40 @@
 use wire::Cursor;
 use wire::Reply;
 
+// Answers a request of a reader or of a whole file, whose code was read.
+fn answer_reader(
+    code: u64,
+    request: &[u8],
+    cursor: Cursor,
+    bytes: &mut [u8],
+    scratch: &mut [u8],
+    out: &mut [u8],
+) -> Reply {
+    match code {
+        0x20 | 0x27 | 0x28 => answer_atoms::answer(code, request, cursor, bytes, scratch, out),
+        0x21 => answer_integers::answer(code, request, cursor, bytes, out),
+        0x22 => answer_floats::answer(code, request, cursor, bytes, out),
+        0x23..=0x25 => answer_strings::answer(code, request, cursor, bytes, scratch, out),
+        0x26 | 0x2B => answer_slices::answer(code, request, cursor, bytes, out),
+        0x29 | 0x2A => answer_dictionary::answer(code, request, cursor, bytes, out),
+        _ => wire::none(),
+    }
+}
+
 // Answers a request into the first bytes of `out`. `bytes` holds its source or what a writer wrote, `scratch` what is
 // copied out of it. An answer is good only if the request was read to its end and everything had room.
 pub fn answer(request: &[u8], bytes: &mut [u8], scratch: &mut [u8], out: &mut [u8]) -> Reply {
-    let code = wire::read_word(request, Cursor { at: 0, good: true });
-    let cursor = code.cursor;
-    let number = code.value;
-    match number {
-        0x1 | 0x2 | 0x10..=0x13 => {
-            return answer_headers::answer(number, request, cursor, bytes, out);
-        }
-        0x20 | 0x27 | 0x28 => {
-            return answer_atoms::answer(number, request, cursor, bytes, scratch, out);
-        }
-        0x21 => {
-            return answer_integers::answer(number, request, cursor, bytes, out);
-        }
-        0x22 | 0x50..=0x55 | 0x76 | 0x77 => {
-            return answer_floats::answer(number, request, cursor, bytes, out);
-        }
-        0x23..=0x25 => {
-            return answer_strings::answer(number, request, cursor, bytes, scratch, out);
-        }
-        0x30..=0x3D | 0x3F | 0x40..=0x49 => {
-            return answer_casts::answer(number, request, cursor, out);
-        }
+    let word = wire::read_word(request, Cursor { at: 0, good: true });
+    let cursor = word.cursor;
+    let code = word.value;
+    match code {
+        0x1 | 0x2 | 0x10..=0x13 => answer_headers::answer(code, request, cursor, bytes, out),
+        0x20..=0x2B => answer_reader(code, request, cursor, bytes, scratch, out),
+        0x50..=0x55 | 0x76 | 0x77 => answer_floats::answer(code, request, cursor, bytes, out),
+        0x30..=0x3D | 0x3F | 0x40..=0x49 => answer_casts::answer(code, request, cursor, out),
         0x3E | 0x60..=0x6D | 0x70..=0x75 => {
-            return answer_writers::answer(number, request, cursor, bytes, scratch, out);
+            answer_writers::answer(code, request, cursor, bytes, scratch, out)
         }
-        _ => {
-            return wire::none();
-        }
+        _ => wire::none(),
     }
 }

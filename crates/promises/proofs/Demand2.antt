@@ -17,6 +17,10 @@ use Rattle.types.specs.declared.Budget.{Budget}
 use Rattle.types.specs.declared.Nucleus.the-variants as N
 use Rattle.types.specs.declared.AtomAnswer.the-variants as A
 use Rattle.header.specs.Header.{headerBytes, headerFrom}
+use Rattle.header.proofs.RoundTrip.{header-back}
+use Rattle.reader.specs.Strings.{stringMark, stringScratch, scratchNeeded}
+use Rattle.reader.specs.Parts.{markedBytes}
+use Rattle.reader.proofs.Delivered.{string-back}
 use Rattle.little.specs.Le.{toLE}
 use Rattle.little.specs.Twos.{twosBits}
 use Rattle.little.specs.Counts.{holdsS, holdsU, shortestS, shortestU}
@@ -36,7 +40,7 @@ use Rattle.float.proofs.Counts.{Allowed, two, four, eight, allowed-is}
 use Rattle.float.proofs.Stored.{Stored}
 use Rattle.float.proofs.RoundTrip as floats
 use Rattle.atom.specs.Charges.{countOf, numberCharge}
-use Rattle.atom.specs.Atoms.{atomRead, atomFrom, atomAfter, atomOf, integerAfter, integerAtom, floatAtom}
+use Rattle.atom.specs.Atoms.{atomRead, atomScratch, scratchFrom, scratchCharged, atomFrom, atomAfter, atomOf, integerAfter, integerAtom, floatAtom}
 use Rattle.atom.proofs.Back.{atom-back, paid}
 use Rattle.atom.proofs.Answers.{integer-left, float-left}
 
@@ -126,3 +130,20 @@ float-back way own bits bytes before after S budget scratch b =
 
     within : (n at : ℕ) → at ≤ n → placeIn n at ≡ at
     within n at h = simp (le-ltb n at h)
+
+-- a written string is delivered: its mark names its bytes, in the source or in the scratch after
+pub bytes-delivered : (way : Way) (before bytes after : List ℕ) (budget : Budget) (scratch : List ℕ) → length bytes < 2 ^ 64 → length bytes ≤ budget .0 → scratchNeeded way (length bytes) ≤ length scratch → markedBytes (stringMark way (length before + length (headerBytes K.Bytes (length bytes))) (length bytes)) (before ++ (headerBytes K.Bytes (length bytes) ++ (bytes ++ after))) (atomScratch way (before ++ (headerBytes K.Bytes (length bytes) ++ (bytes ++ after))) (length before) budget scratch) ≡ bytes
+unfolding atomScratch
+bytes-delivered way before bytes after budget scratch l b r =
+    let n : ℕ = length bytes in
+    let hd : List ℕ = headerBytes K.Bytes n in
+    let s : List ℕ = before ++ (hd ++ (bytes ++ after)) in
+    let long : length s ≡ length before + (length hd + length (bytes ++ after)) = simp length-append in
+    let at : placeIn (length s) (length before) ≡ length before = simp (le-ltb (length s) (length before) (omega arith)) in
+    let split : s ≡ (before ++ hd) ++ (bytes ++ after) = sym (append-assoc before hd (bytes ++ after)) in
+    let place : length (before ++ hd) ≡ length before + length hd = length-append before hd in
+    let header = ap (λ (p : ℕ). headerFrom way s p) at ∙ header-back way K.Bytes n before (bytes ++ after) l in
+    let same = ap (scratchFrom way s budget scratch) header ∙ ap (scratchCharged way s (length before + length hd) n scratch) (paid budget n b) in
+    ap (markedBytes (stringMark way (length before + length hd) n) s) same
+    ∙ ap (λ (p : ℕ). markedBytes (stringMark way p n) s (stringScratch way s p n scratch)) (sym place)
+    ∙ string-back s (before ++ hd) bytes after split way scratch r .1

@@ -49,6 +49,8 @@ use Rattle.types.specs.declared.AsFloat.{AsFloat}
 use Rattle.types.specs.declared.AsFloat.the-variants as Fl
 use Rattle.types.specs.declared.AsInteger.{AsInteger}
 use Rattle.types.specs.declared.AsInteger.the-variants as In
+use Rattle.report.specs.declared.Report.{Report}
+use Rattle.report.specs.declared.Report.the-variants as RP
 use Rattle.cast.specs.Variants.{sign, width, value}
 use Rattle.binary.specs.Formats.{Meaning, finite, infinite, nan}
 use Rattle.binary.specs.Floats.{floatMeaning}
@@ -157,3 +159,8 @@ toldAsFloat (Fl.Refused r) = refused [] r
 abbrev pub toldAsInteger : AsInteger → Told
 toldAsInteger (In.Value x) = taken (integerTold x)
 toldAsInteger (In.Refused r) = refused [] r
+
+-- what the tally program finds of a file
+abbrev pub toldReport : Report → Told
+toldReport (RP.Counted version bytes t) = taken (pos version ∷ pos bytes ∷ pos (t .atoms) ∷ pos (t .body .0) ∷ pos (t .charge) ∷ pos (t .letters) ∷ [])
+toldReport (RP.Refused r start) = refused (pos (start .0) ∷ []) r

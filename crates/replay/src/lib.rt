@@ -1,5 +1,5 @@
-// Replays a file of vectors, oracle/vectors: each request is answered from the proved functions and the answer compared
-// with the oracle's. Proved is that every text is judged and judging ends, and that each line is counted once.
+// Replays the vectors, oracle/vectors: each request is answered from the proved functions and the answer compared with the
+// oracle's, topic by topic. Proved is that every text is judged and judging ends, and that each line is counted once.
 ghost use mathlib.Core.Path.{_≡_};
 ghost use Prim.Native.Nat.{_+_, _<_, _^_, _≤_};
 ghost use lib.ListN.{length};
@@ -133,44 +133,45 @@ fn report(name: &[u8], text: &[u8], bytes: &mut [u8], scratch: &mut [u8], out: &
     }
 }
 
-// Writes a request and its answer as a vector, and `-` for an answer that there is none.
-fn write_vector(request: &[u8], bytes: &mut [u8], scratch: &mut [u8], out: &mut [u8]) {
-    let reply = answers::answer(request, bytes, scratch, out);
-    io::write_all(STDOUT_FILENO, request);
-    io::write_all(STDOUT_FILENO, b" = ");
-    if reply.good {
-        io::write_all(STDOUT_FILENO, wire::first(out, reply.at));
-    } else {
-        io::write_all(STDOUT_FILENO, b"-");
-    }
-    io::write_all(STDOUT_FILENO, b"\n");
+// Whether a line is the heading of a topic: its name, and no vector.
+fn is_heading(line: &[u8]) -> bool {
+    let vector = wire::split(line);
+    !vector.good
 }
 
-// Writes the vector of every request of a text.
-fn write_vectors(text: &[u8], bytes: &mut [u8], scratch: &mut [u8], out: &mut [u8]) {
-    let mut at = 0;
+// Where the topic ends whose first vector starts there: at the next heading, or at the end of the text.
+fn topic_end(text: &[u8], start: usize) -> usize
+    requires { ⌜ start ≤ length (now text) ⌝ }
+    ensures { λ r. ⌜ (start ≤ r) × (r ≤ length (now (text .entry))) ⌝ }
+{
+    let mut at = start;
     while at < text.len() {
-        write_vector(wire::line_at(text, at), bytes, scratch, out);
+        if is_heading(wire::line_at(text, at)) {
+            return at;
+        }
         at = wire::next_line(text, at);
     }
+    at
 }
 
-// Answers the requests on standard input, at most 65,536 bytes.
-pub fn ask() {
-    let mut text = io::large_buffer();
+// Judges the topics of a text, each a heading and its vectors, and writes the counts of each under its name.
+fn report_topics(text: &[u8], bytes: &mut [u8], scratch: &mut [u8], out: &mut [u8]) {
+    let mut at = 0;
+    while at < text.len() {
+        let name = wire::line_at(text, at);
+        let start = wire::next_line(text, at);
+        let end = topic_end(text, start);
+        report(name, &text[start..end], bytes, scratch, out);
+        at = end;
+    }
+}
+
+// Replays the vectors on standard input, at most 524,288 bytes, and writes the counts of each topic.
+pub fn run() {
+    let mut text = [0u8; 524288];
     let count = io::read_full(STDIN_FILENO, &mut text);
     let mut bytes = [0u8; 1024];
     let mut scratch = [0u8; 1024];
     let mut out = [0u8; 2048];
-    write_vectors(&text[..count], &mut bytes, &mut scratch, &mut out);
-}
-
-// Replays the vectors on standard input, at most 65,536 bytes, and writes the counts under that name.
-pub fn run(name: &[u8]) {
-    let mut text = io::large_buffer();
-    let count = io::read_full(STDIN_FILENO, &mut text);
-    let mut bytes = [0u8; 1024];
-    let mut scratch = [0u8; 1024];
-    let mut out = [0u8; 2048];
-    report(name, &text[..count], &mut bytes, &mut scratch, &mut out);
+    report_topics(&text[..count], &mut bytes, &mut scratch, &mut out);
 }

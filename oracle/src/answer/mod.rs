@@ -3,6 +3,7 @@
 mod casts;
 mod numbers;
 mod readers;
+mod sequence;
 mod source;
 mod whole;
 mod writers;
@@ -35,6 +36,7 @@ impl Answers for Oracle {
         match request.code() {
             0x10 | 0x11 | 0x20..=0x26 => self.answer_reader(request),
             0x29..=0x2a => self.answer_whole(request),
+            0x2b => self.answer_sequence(request),
             0x12 | 0x13 | 0x3e | 0x54 | 0x60..=0x7f => self.answer_writer(request),
             0x30..=0x55 => casts::answer_cast(request),
             _ => answer_code(request),

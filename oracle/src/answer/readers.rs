@@ -15,54 +15,59 @@ impl Oracle {
             return Answer::Skipped(Skip::Length);
         }
         match reading.way {
-            Way::Filled => self.read(filled(&reading), request, &reading),
-            Way::ExactLent | Way::ExactCopied => self.read(exact(&reading), request, &reading),
+            Way::Filled => self.read(&mut filled(&reading), request, &reading),
+            Way::ExactLent | Way::ExactCopied => self.read(&mut exact(&reading), request, &reading),
         }
     }
 
-    fn read<'a>(&'a mut self, mut reader: impl Source<'a>, request: &Request<'a>, reading: &Reading<'a>) -> Answer<'a> {
+    /// Asks a reader, which stands where the reading starts.
+    pub(super) fn read<'s, 'a>(
+        &'s mut self,
+        reader: &mut impl Source<'a>,
+        request: &Request<'a>,
+        reading: &Reading<'a>,
+    ) -> Answer<'s> {
         if let Request::ReadAtom(budget, _) = *request {
             return self.atom(reader, budget, reading);
         }
         let outcome = match *request {
-            Request::ReadAtomHeader(_) => {
-                read_atom_header(&mut reader).map(|(kind, arg)| Value::Words(kind as u64, arg))
+            Request::ReadAtomHeader(_) => read_atom_header(reader).map(|(kind, arg)| Value::Words(kind as u64, arg)),
+            Request::ReadHeader(_) => read_header(reader).map(|version| Value::Word(u64::from(version))),
+            Request::IntegerReadFrom(code, count, _) => {
+                Integer::read_from(kind(code), size(count), reader).map(|integer| Value::Integer(told_integer(integer)))
             }
-            Request::ReadHeader(_) => read_header(&mut reader).map(|version| Value::Word(u64::from(version))),
-            Request::IntegerReadFrom(code, count, _) => Integer::read_from(kind(code), size(count), &mut reader)
-                .map(|integer| Value::Integer(told_integer(integer))),
             Request::FloatReadFrom(code, count, _) => {
-                Float::read_from(kind(code), size(count), &mut reader).map(|float| Value::Float(told_float(float)))
+                Float::read_from(kind(code), size(count), reader).map(|float| Value::Float(told_float(float)))
             }
-            Request::BufferedReadBytes(length, _) => self.string(&mut reader, length, reading).map(Value::Text),
-            Request::Read(length, _) => self.bytes(&mut reader, length),
-            Request::ReadExact(length, _) => self.exact_bytes(&mut reader, length),
+            Request::BufferedReadBytes(length, _) => self.string(reader, length, reading).map(Value::Text),
+            Request::Read(length, _) => self.bytes(reader, length),
+            Request::ReadExact(length, _) => self.exact_bytes(reader, length),
             Request::Remaining(_) => Ok(Value::Words(reader.left() as u64, u64::from(filled(reading).is_empty()))),
             _ => unreachable!("every other code is answered elsewhere"),
         };
-        Answer::Given(After::Place(place(&reader, reading)), outcome.map_err(Refusal::from))
+        Answer::Given(After::Place(place(reader, reading)), outcome.map_err(Refusal::from))
     }
 
-    fn atom<'a>(&'a mut self, mut reader: impl Source<'a>, budget: u64, reading: &Reading<'a>) -> Answer<'a> {
+    fn atom<'s, 'a>(&'s mut self, reader: &mut impl Source<'a>, budget: u64, reading: &Reading<'a>) -> Answer<'s> {
         let mut budget = size(budget);
-        let outcome = read_atom(&mut reader, &mut budget, &mut self.scratch);
-        let place = place(&reader, reading);
+        let outcome = read_atom(reader, &mut budget, &mut self.scratch);
+        let place = place(reader, reading);
         let outcome = outcome.map(|atom| told_atom(&atom, &self.scratch, place, reading));
         Answer::Given(After::PlaceAndBudget(place, budget as u64), outcome.map_err(Refusal::from))
     }
 
-    fn string<'a>(
-        &'a mut self,
+    fn string<'s, 'a>(
+        &'s mut self,
         reader: &mut impl Source<'a>,
         length: u64,
         reading: &Reading<'a>,
-    ) -> Result<Text<'a>, Error> {
+    ) -> Result<Text<'s>, Error> {
         let bytes = reader.buffered_read_bytes(size(length), &mut self.scratch)?;
         Ok(told_text(&bytes, &self.scratch, place(reader, reading), reading))
     }
 
     /// `Read::read` into a buffer of that length, cut to what it says it read.
-    fn bytes<'a>(&'a mut self, reader: &mut impl Source<'a>, length: u64) -> Result<Value<'a>, Error> {
+    fn bytes<'s, 'a>(&'s mut self, reader: &mut impl Source<'a>, length: u64) -> Result<Value<'s>, Error> {
         self.scratch.clear();
         self.scratch.resize(size(length), 0);
         let count = reader.read(&mut self.scratch)?;
@@ -70,7 +75,7 @@ impl Oracle {
     }
 
     /// `Read::read_exact` into a buffer of that many zeros.
-    fn exact_bytes<'a>(&'a mut self, reader: &mut impl Source<'a>, length: u64) -> Result<Value<'a>, Error> {
+    fn exact_bytes<'s, 'a>(&'s mut self, reader: &mut impl Source<'a>, length: u64) -> Result<Value<'s>, Error> {
         self.scratch.clear();
         self.scratch.resize(size(length), 0);
         reader.read_exact(&mut self.scratch)?;

@@ -5,7 +5,7 @@ use std::io::{self, Write};
 use super::atoms;
 use super::random::Random;
 use super::sink::Sink;
-use crate::wire::{Reading, Request, Way};
+use crate::wire::{HeldRead, HeldReads, Reading, Request, Way};
 
 /// A file of atoms that a reader takes, where they start, and what they cost.
 struct File {
@@ -44,7 +44,7 @@ pub fn file(random: &mut Random, sink: &mut Sink<impl Write>) -> io::Result<()> 
     Ok(())
 }
 
-/// A run, a tally, and an atom at one of the places where atoms started.
+/// A run, a tally, as many atoms as the file had from one reader, and an atom at one of the places where atoms started.
 fn ask(random: &mut Random, sink: &mut Sink<impl Write>, file: &File, source: &[u8]) -> io::Result<()> {
     let budget = match random.below(4) {
         0 => file.charge.saturating_sub(1),
@@ -53,6 +53,7 @@ fn ask(random: &mut Random, sink: &mut Sink<impl Write>, file: &File, source: &[
     };
     sink.put(&Request::Run(budget, source))?;
     sink.put(&Request::Tally(source))?;
+    sink.put(&Request::Sequence(budget, source, HeldReads::new(file.starts.iter().map(|_| HeldRead::Atom))))?;
     let reading = Reading { way: *random.pick(&Way::ALL), place: *random.pick(&file.starts), source };
     sink.put(&Request::ReadAtom(budget, reading))
 }

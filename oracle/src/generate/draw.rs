@@ -5,7 +5,7 @@ use std::io::{self, Write};
 use super::random::Random;
 use super::sink::Sink;
 use super::{atoms, edges};
-use crate::wire::{code, Reading, Request, Variant, Way, Writer};
+use crate::wire::{code, HeldRead, HeldReads, Reading, Request, Variant, Way, Writer};
 
 /// A source of requests, with a buffer for their bytes.
 pub struct Drawer {
@@ -24,6 +24,7 @@ impl Drawer {
         let request = match code {
             0x10..=0x11 | 0x20..=0x26 => self.reader(code),
             0x27..=0x2a => self.whole(code),
+            code::SEQUENCE => self.sequence(),
             0x30..=0x4f => self.integer(code),
             0x50..=0x5f => self.float(code),
             _ => self.writer(code),
@@ -82,6 +83,22 @@ impl Drawer {
                 }
             }
         }
+    }
+
+    /// Reads with the bytes that they ask for, one after the other; the last of them cut, or more behind them.
+    fn sequence(&mut self) -> Request<'_> {
+        let random = &mut self.random;
+        let count = 1 + random.index(HeldReads::MOST);
+        let mut total = 0;
+        let mut last = 0;
+        let reads = HeldReads::new((0..count).map(|_| {
+            let start = self.bytes.len();
+            let read = held_read(random, &mut self.bytes, &mut total);
+            last = self.bytes.len() - start;
+            read
+        }));
+        resize(random, &mut self.bytes, last);
+        Request::Sequence(budget(random, total), &self.bytes, reads)
     }
 
     fn integer(&mut self, code: u8) -> Request<'_> {
@@ -145,6 +162,27 @@ impl Drawer {
             }
             code::WRITE_F32 => Request::WriteF32(edges::single(random)),
             _ => Request::WriteF64(edges::double(random)),
+        }
+    }
+}
+
+/// A read of a sequence, with the bytes that it asks for; adds what it costs.
+fn held_read(random: &mut Random, bytes: &mut Vec<u8>, total: &mut u64) -> HeldRead {
+    match random.below(6) {
+        0 => HeldRead::Remaining,
+        1 => {
+            let kind = kind_for(random, code::INTEGER_READ_FROM);
+            HeldRead::Integer(kind, put_counted(random, bytes, code::INTEGER_READ_FROM, kind))
+        }
+        2 => {
+            let kind = kind_for(random, code::FLOAT_READ_FROM);
+            HeldRead::Float(kind, put_counted(random, bytes, code::FLOAT_READ_FROM, kind))
+        }
+        3 => HeldRead::Bytes(put_counted(random, bytes, code::BUFFERED_READ_BYTES, 7)),
+        _ => {
+            let charge = if random.once_in(4) { atoms::put_any(random, bytes) } else { atoms::put_good(random, bytes) };
+            *total = total.saturating_add(charge);
+            HeldRead::Atom
         }
     }
 }

@@ -210,16 +210,19 @@ pub enum Answer<'a> {
     /// The request is outside the domain.
     Skipped(Skip),
     Given(After, Result<Value<'a>, Refusal>),
+    /// The answers of several reads, put one after the other on a line.
+    Several(&'a [u8]),
 }
 
 impl Answer<'_> {
     /// The whole line of a skipped request.
     pub const SKIPPED: &'static [u8] = b"-";
 
-    /// Puts the answer on an empty line, without a line feed.
+    /// Puts the answer on a line, without a line feed.
     pub fn put(&self, line: &mut Vec<u8>) {
         match self {
             Self::Skipped(_) => line.extend_from_slice(Self::SKIPPED),
+            Self::Several(answers) => line.extend_from_slice(answers),
             Self::Given(after, outcome) => {
                 put_word(line, outcome.err().map_or(0, Refusal::number));
                 after.put(line);

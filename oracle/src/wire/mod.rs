@@ -5,11 +5,13 @@ mod answer;
 pub mod code;
 mod number;
 mod request;
+mod sequence;
 mod serve;
 mod words;
 
 pub use answer::{After, Answer, Nucleus, Refusal, Skip, Text, Value};
 pub use number::{Float, Integer, Variant, Writer};
 pub use request::{Reading, Request, Way};
+pub use sequence::{HeldRead, HeldReads};
 pub use serve::{serve, Answers, Counts};
-pub use words::{Malformed, Words};
+pub use words::{put_word, Malformed, Words};

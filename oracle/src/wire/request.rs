@@ -2,6 +2,7 @@
 
 use super::code;
 use super::number::{single, value_of, Float, Integer, Variant, Writer};
+use super::sequence::HeldReads;
 use super::words::{put_bytes, put_wide, put_word, Malformed, Words};
 
 /// The way of reading. The original has the first and the last.
@@ -71,6 +72,7 @@ pub enum Request<'a> {
     InMemoryIntSize(u64),
     Run(u64, &'a [u8]),
     Tally(&'a [u8]),
+    Sequence(u64, &'a [u8], HeldReads),
     IntegerAs(Variant, Integer),
     IntegerAsF32(Integer),
     IntegerAsF64(Integer),
@@ -141,6 +143,7 @@ impl<'a> Request<'a> {
             code::IN_MEMORY_INT_SIZE => Self::InMemoryIntSize(words.word()?),
             code::RUN => Self::Run(words.word()?, words.bytes(buffer)?),
             code::TALLY => Self::Tally(words.bytes(buffer)?),
+            code::SEQUENCE => Self::Sequence(words.word()?, words.bytes(buffer)?, HeldReads::parse(words)?),
             _ => return Err(UNKNOWN_CODE),
         })
     }
@@ -213,6 +216,7 @@ impl<'a> Request<'a> {
             Self::InMemoryIntSize(..) => code::IN_MEMORY_INT_SIZE,
             Self::Run(..) => code::RUN,
             Self::Tally(..) => code::TALLY,
+            Self::Sequence(..) => code::SEQUENCE,
             Self::IntegerAs(variant, _) => code::INTEGER_AS + *variant as u8,
             Self::IntegerAsF32(..) => code::INTEGER_AS_F32,
             Self::IntegerAsF64(..) => code::INTEGER_AS_F64,
@@ -273,6 +277,11 @@ impl<'a> Request<'a> {
             Self::Run(budget, source) => {
                 put_word(line, budget);
                 put_bytes(line, source);
+            }
+            Self::Sequence(budget, source, reads) => {
+                put_word(line, budget);
+                put_bytes(line, source);
+                reads.put(line);
             }
             Self::Tally(bytes) | Self::WriteBytes(bytes) => put_bytes(line, bytes),
             Self::IntegerAs(_, integer)

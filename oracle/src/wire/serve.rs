@@ -24,7 +24,7 @@ pub struct Counts {
 impl Counts {
     fn add(&mut self, answer: &Answer<'_>) {
         *match answer {
-            Answer::Given(..) => &mut self.answered,
+            Answer::Given(..) | Answer::Several(..) => &mut self.answered,
             Answer::Skipped(Skip::Width) => &mut self.width,
             Answer::Skipped(Skip::Length) => &mut self.length,
         } += 1;

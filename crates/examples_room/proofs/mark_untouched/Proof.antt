@@ -1,0 +1,49 @@
+-- `examples_room::mark_untouched` is safe and ends. The invariant: the buffer keeps its length.
+use Prim.Native.Nat.{_-_, _≤_}
+use mathlib.Core.Path.{_≡_}
+use native.Mathlib.Omega.{arith}
+use lib.ListN.{length, length-set}
+use borrow.Author.Needs.{needs}
+use Rattle.examples_room.proofs.mark_untouched.Statement.{statement}
+use Rattle.examples_room.proofs.mark_untouched.Tie as tie
+
+abbrev Inv-loop : tie.InvT-loop
+Inv-loop buffer₀ i₀ buffer i = (i ≤ length buffer) × (length buffer ≡ length buffer₀)
+
+abbrev μ-loop : tie.MeasureT-loop
+μ-loop buffer₀ i₀ buffer i = length buffer₀ - i
+
+loop-holds : tie.Need-loop-holds Inv-loop μ-loop
+loop-holds c = search needs
+
+slice-write-buffer : tie.Need-slice-write-buffer Inv-loop μ-loop
+slice-write-buffer c = search needs
+
+add-i : tie.Need-add-i Inv-loop μ-loop
+add-i c = search needs
+
+loop-less : tie.Need-loop-less Inv-loop μ-loop
+loop-less c = search needs
+
+loop-again : tie.Need-loop-again Inv-loop μ-loop
+loop-again c = simp length-set (omega arith)
+
+same-length : tie.Need-same-length Inv-loop μ-loop
+same-length c = search needs
+
+returns : tie.Need-returns Inv-loop μ-loop
+returns c = search needs
+
+pub mark-untouched-spec : {M : Type 1} → statement M
+mark-untouched-spec =
+    tie.close
+    (tie.spec
+    Inv-loop
+    μ-loop
+    loop-holds
+    slice-write-buffer
+    add-i
+    loop-less
+    loop-again
+    same-length
+    returns)

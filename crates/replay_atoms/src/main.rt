@@ -1,4 +1,0 @@
-// Replays oracle/vectors/atoms.txt.
-fn main() {
-    replay::run(b"atoms");
-}

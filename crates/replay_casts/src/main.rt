@@ -1,4 +1,0 @@
-// Replays oracle/vectors/casts.txt.
-fn main() {
-    replay::run(b"casts");
-}

@@ -1,4 +1,0 @@
-// Replays oracle/vectors/floats.txt.
-fn main() {
-    replay::run(b"floats");
-}

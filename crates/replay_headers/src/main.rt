@@ -1,4 +1,0 @@
-// Replays oracle/vectors/headers.txt.
-fn main() {
-    replay::run(b"headers");
-}

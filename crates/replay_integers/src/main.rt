@@ -1,4 +1,0 @@
-// Replays oracle/vectors/integers.txt.
-fn main() {
-    replay::run(b"integers");
-}

@@ -1,4 +1,0 @@
-// Replays oracle/vectors/signature.txt.
-fn main() {
-    replay::run(b"signature");
-}

@@ -1,4 +1,0 @@
-// Replays oracle/vectors/strings.txt.
-fn main() {
-    replay::run(b"strings");
-}

@@ -1,0 +1,4 @@
+// Replays oracle/vectors/vectors.txt.
+fn main() {
+    replay::run();
+}

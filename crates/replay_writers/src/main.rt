@@ -1,4 +1,0 @@
-// Replays oracle/vectors/writers.txt.
-fn main() {
-    replay::run(b"writers");
-}
