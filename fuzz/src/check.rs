@@ -29,8 +29,8 @@ impl Checker {
             return self.walk(budget, way, source, room);
         }
         let Some(said) = self.compare(call, room) else { return };
-        let writes = !matches!(call, Call::ReadHeader(..) | Call::ReadAtom(..) | Call::WriteHeader(..));
-        if said.number == 0 && writes && !said.bytes.is_empty() {
+        let copied = matches!(call, Call::ReadAtom(..));
+        if !copied && !said.bytes.is_empty() {
             self.read_back(call, &said.bytes);
         }
     }
@@ -39,7 +39,11 @@ impl Checker {
         let room = Room { words: 8, bytes: written.len() };
         for way in Way::ALL {
             let reading = Reading { way, place: 0, source: written };
-            let said = self.compare(&Call::ReadAtom(u64::MAX, reading), room).expect("what was written is short");
+            let read = match call {
+                Call::WriteHeader(_) => Call::ReadHeader(reading),
+                _ => Call::ReadAtom(u64::MAX, reading),
+            };
+            let said = self.compare(&read, room).expect("every signature and atom has an answer");
             if let Call::WriteInteger(_, bits) = *call {
                 let (low, high) = halves(bits);
                 assert_eq!((said.words[6], said.words[7]), (low, high), "not what was written: {call:?}");
