@@ -6,5 +6,6 @@ pub mod Widening
 pub mod Steps
 pub mod Laws
 pub mod Nan
+pub mod Units
 pub mod Values
 pub mod Examples

@@ -12,7 +12,8 @@ use lib.Ieee.Fits.{down-pos}
 use borrow.Author.Tests.{lt-ltb, le-leb, lt-leb, ltb-true, ltb-false, eqb-true, eqb-false}
 use Rattle.binary.specs.Floats.{unitsOf, floatMeaning}
 use Rattle.float.specs.Values.{atMost, equalNumbers}
-use Rattle.float.proofs.Units.{Fine, cross, same-units, no-units}
+use Rattle.binary.proofs.Units.{Fine}
+use Rattle.float.proofs.Units.{cross, same-units, no-units}
 
 -- ---- below one power of two and above its opposite
 

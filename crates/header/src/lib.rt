@@ -4,6 +4,7 @@ ghost use mathlib.Core.Path.{_≡_};
 ghost use mathlib.Core.List.{_++_};
 ghost use Prim.Native.Nat.{_≤_, _<_, _+_, _*_, _^_};
 ghost use lib.ListN.{length, drop, getD};
+ghost use Rattle.types.specs.declared.Kind.{Kind};
 ghost use Rattle.types.specs.Kinds.{kindFrom, kindKnown};
 ghost use Rattle.lent.specs.Lent.{writtenAnswer, writtenContent};
 ghost use Rattle.header.specs.Header.{headerRead, headerFrom, headerBytes, laterBytes, laterFrom};
@@ -29,6 +30,16 @@ fn later_length(rest: u64) -> usize
         count += 1;
     }
     count
+}
+
+// How many bytes an atom header takes, whatever its kind.
+pub fn header_length(arg: u64) -> usize
+    ensures { λ r. ⌜ ((kind : Kind) → r ≡ length (headerBytes kind arg)) × (r ≤ 10) ⌝ }
+{
+    if arg < 16 {
+        return 1;
+    }
+    later_length(arg / 16) + 1
 }
 
 // Writes the later part of an argument, 7 bits to a byte, lowest first.

@@ -1,4 +1,6 @@
 -- One result for each contract of `header`, and one content of each lent buffer.
+use Rattle.header.proofs.header_length as header-length
+use Rattle.header.proofs.header_length.Reads as header-length-reads
 use Rattle.header.proofs.read_atom_header as read-atom-header
 use Rattle.header.proofs.read_atom_header.Reads as read-atom-header-reads
 use Rattle.header.proofs.read_header as read-header
@@ -10,6 +12,10 @@ use Rattle.header.proofs.write_header.Reads as write-header-reads
 use Rattle.promises.proofs.One.{One}
 use denote.Ref.{now}
 use mathlib.Core.Path.{_≡_, _∙_, sym, refl}
+use Rattle.types.specs.declared.Kind.the-variants as K
+
+pub header-length-one : One header-length.ended header-length-reads.Post (λ κs s. tt {0})
+header-length-one κs a r₁ r₂ s₁ s₂ p q = (p .0 K.Bytes ∙ sym (q .0 K.Bytes), refl)
 
 pub write-atom-header-one : One write-atom-header.ended write-atom-header-reads.Post (λ κs s. now (s .0))
 write-atom-header-one κs a r₁ r₂ s₁ s₂ p q = (p .0 ∙ sym (q .0), p .1 ∙ sym (q .1))

@@ -1,3 +1,9 @@
 pub mod Shut
+pub mod Plain
+pub mod Answers
+pub mod Reading
+pub mod RestOf
+pub mod Asking
+pub mod FromSlice
 pub mod Leaves
 pub mod One

@@ -2,13 +2,9 @@
 // number"; format.rs, `write_special` to `write_bytes`, and `Integer::write_to`. A writer of a number tries the next
 // smaller one first, so that it writes the smallest count that holds the value.
 ghost use mathlib.Core.Path.{_≡_};
-ghost use Prim.Native.Nat.{_≤_};
-ghost use lib.ListN.{length};
 ghost use lib.Signed.{mag};
-ghost use Rattle.types.specs.declared.Kind.the-variants.{Bytes};
 ghost use Rattle.types.specs.declared.Special.the-variants.{None, Unit, Named};
 ghost use Rattle.lent.specs.Lent.{writtenAnswer, writtenContent};
-ghost use Rattle.header.specs.Header.{headerBytes};
 ghost use Rattle.little.specs.Counts.{holdsU, holdsS};
 ghost use Rattle.integer.specs.Integers.{wideBits};
 ghost use Rattle.writers.specs.Bytes.{signedBytes, unsignedBytes, wideSigned, valueBytes, specialBytes, truth, bytesBytes, heldAnswer, heldContent};
@@ -271,28 +267,12 @@ pub fn write_to(out: &mut [u8], integer: Integer) -> Written
     }
 }
 
-// How many bytes the header of a string takes.
-fn header_length(arg: u64) -> usize
-    ensures { λ r. ⌜ (r ≡ length (headerBytes Bytes arg)) × (r ≤ 10) ⌝ }
-{
-    if arg < 16 {
-        return 1;
-    }
-    let mut count: usize = 1;
-    let mut rest = arg / 16;
-    while 128 <= rest {
-        rest = rest / 128;
-        count += 1;
-    }
-    count + 1
-}
-
 // Writes a string: its header, then its bytes. The room of both is judged before either is written.
 pub fn write_bytes(out: &mut [u8], value: &[u8]) -> Written
     ensures { λ r. ⌜ r ≡ writtenAnswer (bytesBytes (now (value .entry))) (now (out .entry)) ⌝ }
     ensures { λ r. ⌜ now (out .exit) ≡ writtenContent (bytesBytes (now (value .entry))) (now (out .entry)) ⌝ }
 {
-    let head = header_length(value.len() as u64);
+    let head = header::header_length(value.len() as u64);
     let needed = head + value.len();
     if out.len() < needed {
         return Written::Refused(Refusal::no_room(needed));

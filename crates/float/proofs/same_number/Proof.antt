@@ -1,7 +1,7 @@
 -- `float::same_number` meets its contract: the logic compares the values as their meanings are compared.
 use lib.Ieee
 use borrow.Author.Needs.{needs}
-use Rattle.float.proofs.Units.{fine}
+use Rattle.binary.proofs.Units.{fine}
 use Rattle.float.proofs.Compared.{equal-is}
 use Rattle.float.proofs.same_number.Statement.{statement}
 use Rattle.float.proofs.same_number.Tie as tie

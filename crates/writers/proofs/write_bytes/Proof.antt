@@ -31,7 +31,7 @@ returns c =
     let v = now (a .value) in
     let old = now (a .out) in
     let bytes = bytesBytes v in
-    let n : c .before .before .header-length .result + length v ≡ length bytes = ap (λ (k : ℕ). k + length v) (c .before .before .header-length .ensures .0) ∙ sym (length-append (headerBytes K.Bytes (length v)) v) in
+    let n : c .before .before .header-length .result + length v ≡ length bytes = ap (λ (k : ℕ). k + length v) (c .before .before .header-length .ensures .0 K.Bytes) ∙ sym (length-append (headerBytes K.Bytes (length v)) v) in
     let short : length old < length bytes = omega arith in
     (ap W.Refused (c .no-room .ensures ∙ ap noRoom n) ∙ sym (answer-short bytes old short), sym (content-short bytes old short))
 
@@ -59,7 +59,7 @@ returns-2 c =
     let v = now (a .value) in
     let old = now (a .out) in
     let head = headerBytes K.Bytes (length v) in
-    let e : c .before .before .before .before .before .before .before .before .before .header-length .result ≡ length head = c .before .before .before .before .before .before .before .before .before .header-length .ensures .0 in
+    let e : c .before .before .before .before .before .before .before .before .before .header-length .result ≡ length head = c .before .before .before .before .before .before .before .before .before .header-length .ensures .0 K.Bytes in
     let n : c .before .before .before .before .before .before .before .before .before .header-length .result + length v ≡ length (head ++ v) = ap (λ (k : ℕ). k + length v) e ∙ sym (length-append head v) in
     let room : length (head ++ v) ≤ length old = omega arith in
     let both : length head + length v ≤ length old = omega arith in
