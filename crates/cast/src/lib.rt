@@ -114,7 +114,7 @@ pub fn equal(a: Integer, b: Integer) -> bool
 }
 
 // The two words of a signed number.
-fn wide_of_i64(value: i64) -> Wide
+pub fn wide_of_i64(value: i64) -> Wide
     ensures { λ r. ⌜ r ≡ wideOf value ⌝ }
 {
     if 0 <= value {
@@ -130,7 +130,7 @@ fn wide_of_i64(value: i64) -> Wide
 }
 
 // The two words of an unsigned number.
-fn wide_of_u64(value: u64) -> Wide
+pub fn wide_of_u64(value: u64) -> Wide
     ensures { λ r. ⌜ r ≡ wideOf (pos value) ⌝ }
 {
     Wide { lo: value, hi: 0 }

@@ -49,6 +49,10 @@ use Rattle.cast.proofs.from_u8 as from-u8
 use Rattle.cast.proofs.from_u8.Reads as from-u8-reads
 use Rattle.cast.proofs.is_zero as is-zero
 use Rattle.cast.proofs.is_zero.Reads as is-zero-reads
+use Rattle.cast.proofs.wide_of_i64 as wide-of-i64
+use Rattle.cast.proofs.wide_of_i64.Reads as wide-of-i64-reads
+use Rattle.cast.proofs.wide_of_u64 as wide-of-u64
+use Rattle.cast.proofs.wide_of_u64.Reads as wide-of-u64-reads
 use Rattle.promises.proofs.One.{One}
 use mathlib.Core.Path.{_≡_, _∙_, sym, refl}
 
@@ -126,3 +130,9 @@ from-i64-one κs a r₁ r₂ s₁ s₂ p q = (p ∙ sym q, refl)
 
 pub from-i128-one : One from-i128.ended from-i128-reads.Post (λ κs s. tt {0})
 from-i128-one κs a r₁ r₂ s₁ s₂ p q = (p ∙ sym q, refl)
+
+pub wide-of-i64-one : One wide-of-i64.ended wide-of-i64-reads.Post (λ κs s. tt {0})
+wide-of-i64-one κs a r₁ r₂ s₁ s₂ p q = (p ∙ sym q, refl)
+
+pub wide-of-u64-one : One wide-of-u64.ended wide-of-u64-reads.Post (λ κs s. tt {0})
+wide-of-u64-one κs a r₁ r₂ s₁ s₂ p q = (p ∙ sym q, refl)

@@ -15,7 +15,12 @@ pub mod Dictionary
 pub mod SliceReader
 pub mod Report
 pub mod ReportText
+pub mod Words
+pub mod Recast
+pub mod Exports
+pub mod Laid
 pub mod Exactly
+pub mod SameValue
 pub mod Demand1
 pub mod Demand2
 pub mod Demands

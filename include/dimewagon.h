@@ -1,0 +1,121 @@
+/* Dimewagon: the atoms of dictionary files, read, written and cast.
+ *
+ * Every function answers a number and writes eight words. The number is 0, or the refusal's:
+ *
+ *     1 IncompatibleVersion          the signature's bits are missing
+ *     2 InvalidKind                  a code that no kind has; the code
+ *     3 UnknownSpecial               a code that no special has; the code
+ *     4 Eof                          the input ends
+ *     5 TooManyBytesRead             the charge exceeds the budget
+ *     6 UnsupportedByteCount         a number of a width that is not allowed; kind, count
+ *     7 UnexpectedKind               kind, wanted
+ *     8 ImpreciseCastWouldLoseData   a cast that would lose data, or a value that its writer or variant does not hold
+ *     9 NoRoom                       no room in `out`, in `scratch`, or for the eight words
+ *    10 TooLong                      a tally's input of more than 16,777,216 bytes
+ *
+ * All eight words are written by every call, with zeros where nothing is said, except that an array of fewer than eight is
+ * refused by 9 and nothing is done. What the words hold is said at each function; the data of a refusal, two words, are
+ * named above, kinds by their codes. A slice is a pointer, which may be dangling but not null if the length is 0, and a
+ * length. Slices that are written to must not overlap others. No function keeps a pointer, takes memory or fails otherwise.
+ */
+#ifndef DIMEWAGON_H
+#define DIMEWAGON_H
+
+#include <stddef.h>
+#include <stdint.h>
+
+#ifdef __cplusplus
+extern "C" {
+#endif
+
+/* The words that a call writes. */
+#define POT_WORDS 8
+
+/* The kinds of an atom. */
+enum { POT_SPECIAL, POT_INT, POT_UINT, POT_FLOAT, POT_SEQUENCE, POT_MAP, POT_SYMBOL, POT_BYTES };
+
+/* What an atom holds: word 4 of an atom that was read, and words 5 to 7. */
+enum {
+    POT_NONE,        /* nothing, or the special None */
+    POT_BOOLEAN,     /* 0 or 1 */
+    POT_INTEGER,     /* variant, low word, high word: two's complement in 128 bits */
+    POT_FLOATING,    /* 4 or 8, the value's bits at that width in bytes, the stored bits */
+    POT_STRING,      /* start, length, 1 if it is a part of the source, 0 if of the scratch */
+    POT_UNIT,
+    POT_NAMED,
+    POT_DYNAMIC_MAP,
+    POT_DYNAMIC_END
+};
+
+/* The variants of an integer. */
+enum { POT_I8, POT_I16, POT_I32, POT_I64, POT_I128, POT_U8, POT_U16, POT_U32, POT_U64, POT_U128 };
+
+/* Reads the signature of a file at a place. Words: place after, version. The first takes bytes past the end as zeros; the
+ * second refuses them. */
+uint64_t pot_read_header(const uint8_t *source, size_t source_len, size_t place, uint64_t *words, size_t words_len);
+uint64_t pot_read_header_exact(const uint8_t *source, size_t source_len, size_t place, uint64_t *words, size_t words_len);
+
+/* Reads one atom at a place, with a budget for what its value takes in memory. Words: place after, budget left; then kind,
+ * argument, what it holds and its three words, or the refusal's data. The first takes number and header bytes past the end
+ * as zeros; the others refuse them. The third copies a string into the scratch; the others answer where it is in the source. */
+uint64_t pot_read_atom(const uint8_t *source, size_t source_len, size_t place, uint64_t budget, uint64_t *words, size_t words_len);
+uint64_t pot_read_atom_exact(const uint8_t *source, size_t source_len, size_t place, uint64_t budget, uint64_t *words, size_t words_len);
+uint64_t pot_read_atom_copied(const uint8_t *source, size_t source_len, size_t place, uint64_t budget, uint8_t *scratch, size_t scratch_len, uint64_t *words, size_t words_len);
+
+/* Reads one atom exactly and builds no value. Words: place after, budget left; then where its body starts and 1 if it is a
+ * string, or the refusal's data. */
+uint64_t pot_skip_atom(const uint8_t *source, size_t source_len, size_t place, uint64_t budget, uint64_t *words, size_t words_len);
+
+/* Reads all atoms exactly. Words: place, budget left, atoms; of a refused atom also where it starts, and the data. */
+uint64_t pot_run(const uint8_t *source, size_t source_len, uint64_t budget, uint64_t *words, size_t words_len);
+
+/* Reads all atoms exactly, without a budget. Words: atoms, body bytes, charge, letters; or where the refused atom starts,
+ * and the data. */
+uint64_t pot_tally(const uint8_t *source, size_t source_len, uint64_t *words, size_t words_len);
+
+/* Writers. Each writes to the first bytes of `out`, in the fewest, or nothing. Words: how many bytes, or the data. */
+uint64_t pot_write_header(uint8_t *out, size_t out_len, uint8_t version, uint64_t *words, size_t words_len);
+uint64_t pot_write_atom_header(uint8_t *out, size_t out_len, uint8_t kind, uint64_t arg, uint64_t *words, size_t words_len);
+uint64_t pot_write_special(uint8_t *out, size_t out_len, uint64_t special, uint64_t *words, size_t words_len);
+uint64_t pot_write_none(uint8_t *out, size_t out_len, uint64_t *words, size_t words_len);
+uint64_t pot_write_unit(uint8_t *out, size_t out_len, uint64_t *words, size_t words_len);
+uint64_t pot_write_named(uint8_t *out, size_t out_len, uint64_t *words, size_t words_len);
+uint64_t pot_write_bool(uint8_t *out, size_t out_len, uint8_t value, uint64_t *words, size_t words_len);
+uint64_t pot_write_i8(uint8_t *out, size_t out_len, int8_t value, uint64_t *words, size_t words_len);
+uint64_t pot_write_i16(uint8_t *out, size_t out_len, int16_t value, uint64_t *words, size_t words_len);
+uint64_t pot_write_i24(uint8_t *out, size_t out_len, int32_t value, uint64_t *words, size_t words_len);
+uint64_t pot_write_i32(uint8_t *out, size_t out_len, int32_t value, uint64_t *words, size_t words_len);
+uint64_t pot_write_i48(uint8_t *out, size_t out_len, int64_t value, uint64_t *words, size_t words_len);
+uint64_t pot_write_i64(uint8_t *out, size_t out_len, int64_t value, uint64_t *words, size_t words_len);
+uint64_t pot_write_i128(uint8_t *out, size_t out_len, uint64_t low, uint64_t high, uint64_t *words, size_t words_len);
+uint64_t pot_write_u8(uint8_t *out, size_t out_len, uint8_t value, uint64_t *words, size_t words_len);
+uint64_t pot_write_u16(uint8_t *out, size_t out_len, uint16_t value, uint64_t *words, size_t words_len);
+uint64_t pot_write_u24(uint8_t *out, size_t out_len, uint32_t value, uint64_t *words, size_t words_len);
+uint64_t pot_write_u32(uint8_t *out, size_t out_len, uint32_t value, uint64_t *words, size_t words_len);
+uint64_t pot_write_u48(uint8_t *out, size_t out_len, uint64_t value, uint64_t *words, size_t words_len);
+uint64_t pot_write_u64(uint8_t *out, size_t out_len, uint64_t value, uint64_t *words, size_t words_len);
+uint64_t pot_write_u128(uint8_t *out, size_t out_len, uint64_t low, uint64_t high, uint64_t *words, size_t words_len);
+/* An integer by its variant, low and high word. */
+uint64_t pot_write_integer(uint8_t *out, size_t out_len, uint64_t variant, uint64_t low, uint64_t high, uint64_t *words, size_t words_len);
+uint64_t pot_write_bytes(uint8_t *out, size_t out_len, const uint8_t *value, size_t value_len, uint64_t *words, size_t words_len);
+/* Floats by their bits, a NaN's too. */
+uint64_t pot_write_f32(uint8_t *out, size_t out_len, uint32_t bits, uint64_t *words, size_t words_len);
+uint64_t pot_write_f64(uint8_t *out, size_t out_len, uint64_t bits, uint64_t *words, size_t words_len);
+
+/* Casts of an integer, given by its variant, low and high word; a value that its variant does not hold is refused by 8.
+ * To an integer of the variant `to`; words: low word, high word. To a float; words: its bits. */
+uint64_t pot_integer_cast(uint64_t to, uint64_t variant, uint64_t low, uint64_t high, uint64_t *words, size_t words_len);
+uint64_t pot_integer_as_f32(uint64_t variant, uint64_t low, uint64_t high, uint64_t *words, size_t words_len);
+uint64_t pot_integer_as_f64(uint64_t variant, uint64_t low, uint64_t high, uint64_t *words, size_t words_len);
+
+/* Casts of a float, given by its bits. To a float; words: its bits. To an integer; words: variant, low word, high word. */
+uint64_t pot_f32_as_f64(uint32_t bits, uint64_t *words, size_t words_len);
+uint64_t pot_f64_as_f32(uint64_t bits, uint64_t *words, size_t words_len);
+uint64_t pot_f32_as_integer(uint32_t bits, uint64_t *words, size_t words_len);
+uint64_t pot_f64_as_integer(uint64_t bits, uint64_t *words, size_t words_len);
+
+#ifdef __cplusplus
+}
+#endif
+
+#endif
