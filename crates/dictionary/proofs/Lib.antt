@@ -1,5 +1,6 @@
 pub mod Bodies
 pub mod Steps
+pub mod Shorts
 pub mod Letters
 pub mod Turns
 pub mod Fronts

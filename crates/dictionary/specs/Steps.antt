@@ -1,8 +1,10 @@
 -- The step of a run: an atom read exactly, strings lent, and its value forgotten. Document 01, "Two ways of reading".
 use Prim.Native.Nat.{ℕ, _+_, _-_}
+use mathlib.Core.Path.{_≡_}
 use mathlib.Core.Bool.{Bool, false}
 use mathlib.Core.List.{List, []}
 use lib.Dec.{ltb, leb}
+use lib.ListN.{getD}
 use Rattle.types.specs.Choice.{pick}
 use Rattle.types.specs.declared.Way.the-variants as W
 use Rattle.types.specs.declared.Kind.{Kind}
@@ -46,3 +48,10 @@ bodyPast size at left string len charge allowed why =
 abbrev pub bodyAfter : ℕ → Kind → ℕ → ℕ → ℕ → Skipped
 bodyAfter size kind arg at left =
     bodyPast size at left (isString kind) (bodyLength kind arg) (chargeOf kind arg) (known kind arg) (unknown kind arg)
+
+-- a step past an atom whose header is one byte, and which costs what its body is long: it is a string if its kind, in the top 3
+-- bits, is 7
+abbrev pub ShortPast : List ℕ → ℕ → ℕ → ℕ → Type 0
+ShortPast source at left end =
+    skipped source at (record { 0 = left })
+    ≡ SK.Past (record { 0 = end }) (record { 0 = left - (end - (at + 1)) }) (record { 0 = at + 1 }) (leb 0xE0 (getD source at 0))

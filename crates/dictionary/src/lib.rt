@@ -8,7 +8,7 @@ ghost use Rattle.types.specs.Choice.{pick};
 ghost use Rattle.types.specs.declared.Refusal.the-variants as R;
 ghost use Rattle.atom.specs.Charges.{numberCharge};
 ghost use Rattle.dictionary.specs.Letters.{letter, letters};
-ghost use Rattle.dictionary.specs.Steps.{skipped, bodyPast, bodyAfter};
+ghost use Rattle.dictionary.specs.Steps.{skipped, bodyPast, bodyAfter, ShortPast};
 ghost use Rattle.dictionary.specs.Runs.{runAll, tallyAll};
 use types::BodyBytes;
 use types::Budget;
@@ -110,6 +110,37 @@ pub fn skip_atom(source: &[u8], place: Place, budget: Budget) -> Skipped
     }
 }
 
+// Where an atom ends that the run and the tally pass without asking `skip_atom`: a UInt of one byte, a string or a sequence
+// whose header is one byte, as nearly all of a dictionary's are. Of any other, or one that is refused, its start.
+fn short_end(source: &[u8], at: usize, left: u64) -> usize
+    requires { ⌜ at < length (now source) ⌝ }
+    ensures { λ r. ⌜ (r ≤ length (now (source .entry))) × (r ≤ at + 1 + left) × (at < r → ShortPast (now (source .entry)) at left r) ⌝ }
+{
+    let first = source[at];
+    let room = source.len() - at;
+    if first == 0x40 {
+        if 1 < room {
+            if 1 <= left {
+                return at + 2;
+            }
+        }
+        return at;
+    }
+    if first / 16 == 14 {
+        let count = (first % 16) as usize;
+        if count < room {
+            if count as u64 <= left {
+                return at + 1 + count;
+            }
+        }
+        return at;
+    }
+    if first / 16 == 8 {
+        return at + 1;
+    }
+    at
+}
+
 // Reads a file's atoms until its end or a refusal.
 pub fn run(source: &[u8], budget: Budget) -> Ran
     ensures { λ r. ⌜ r ≡ runAll (now (source .entry)) budget ⌝ }
@@ -118,6 +149,13 @@ pub fn run(source: &[u8], budget: Budget) -> Ran
     let mut at: usize = 0;
     let mut left = budget.0;
     while at < source.len() {
+        let short = short_end(source, at, left);
+        if at < short {
+            atoms += 1;
+            left -= (short - at - 1) as u64;
+            at = short;
+            continue;
+        }
         match skip_atom(source, Place(at), Budget(left)) {
             Skipped::Past(place, rest, _, _) => {
                 atoms += 1;
@@ -206,6 +244,18 @@ pub fn tally(source: &[u8]) -> TallyAnswer
     let mut letters: u64 = 0;
     let mut at: usize = 0;
     while at < source.len() {
+        let short = short_end(source, at, 0xFFFF_FFFF_FFFF_FFFF);
+        if at < short {
+            let from = at + 1;
+            let size = (short - from) as u64;
+            let string = 0xE0 <= source[at];
+            atoms += 1;
+            body += size;
+            charge += size;
+            letters += letters_of(source, from, short, string);
+            at = short;
+            continue;
+        }
         match skip_atom(source, Place(at), Budget(0xFFFF_FFFF_FFFF_FFFF)) {
             Skipped::Past(place, rest, start, string) => {
                 let end = place.0;

@@ -114,51 +114,28 @@ fn bit(value: bool) -> u64
     if value { 1 } else { 0 }
 }
 
+// An integer's words, put together.
+fn of_variant(variant: u64, value: Wide) -> IntegerWords
+    ensures { λ r. ⌜ r ≡ record { variant = variant; value = value } ⌝ }
+{
+    IntegerWords { variant, value }
+}
+
 // The words of an integer.
 fn integer_words(x: Integer) -> IntegerWords
     ensures { λ r. ⌜ r ≡ integerWords x ⌝ }
 {
     match x {
-        Integer::I8(v) => return IntegerWords {
-            variant: 0,
-            value: cast::wide_of_i64(v as i64),
-        },
-        Integer::I16(v) => return IntegerWords {
-            variant: 1,
-            value: cast::wide_of_i64(v as i64),
-        },
-        Integer::I32(v) => return IntegerWords {
-            variant: 2,
-            value: cast::wide_of_i64(v as i64),
-        },
-        Integer::I64(v) => return IntegerWords {
-            variant: 3,
-            value: cast::wide_of_i64(v),
-        },
-        Integer::I128(v) => return IntegerWords {
-            variant: 4,
-            value: v,
-        },
-        Integer::U8(v) => return IntegerWords {
-            variant: 5,
-            value: cast::wide_of_u64(v as u64),
-        },
-        Integer::U16(v) => return IntegerWords {
-            variant: 6,
-            value: cast::wide_of_u64(v as u64),
-        },
-        Integer::U32(v) => return IntegerWords {
-            variant: 7,
-            value: cast::wide_of_u64(v as u64),
-        },
-        Integer::U64(v) => return IntegerWords {
-            variant: 8,
-            value: cast::wide_of_u64(v),
-        },
-        Integer::U128(v) => return IntegerWords {
-            variant: 9,
-            value: v,
-        },
+        Integer::I8(v) => return of_variant(0, cast::wide_of_i64(v as i64)),
+        Integer::I16(v) => return of_variant(1, cast::wide_of_i64(v as i64)),
+        Integer::I32(v) => return of_variant(2, cast::wide_of_i64(v as i64)),
+        Integer::I64(v) => return of_variant(3, cast::wide_of_i64(v)),
+        Integer::I128(v) => return of_variant(4, v),
+        Integer::U8(v) => return of_variant(5, cast::wide_of_u64(v as u64)),
+        Integer::U16(v) => return of_variant(6, cast::wide_of_u64(v as u64)),
+        Integer::U32(v) => return of_variant(7, cast::wide_of_u64(v as u64)),
+        Integer::U64(v) => return of_variant(8, cast::wide_of_u64(v)),
+        Integer::U128(v) => return of_variant(9, v),
     }
 }
 
@@ -195,63 +172,37 @@ fn float_words(arg: u64, value: Float, stored: u64) -> NucleusWords
     }
 }
 
+// The words of what an atom holds, put together.
+fn of_case(case: u64, first: u64, second: u64, third: u64) -> NucleusWords
+    ensures { λ r. ⌜ r ≡ record { case = case; first = first; second = second; third = third } ⌝ }
+{
+    NucleusWords {
+        case,
+        first,
+        second,
+        third,
+    }
+}
+
 // The words of what an atom of that argument holds.
 fn nucleus_words(arg: u64, nucleus: Nucleus) -> NucleusWords
     ensures { λ r. ⌜ r ≡ nucleusWords arg nucleus ⌝ }
 {
     match nucleus {
-        Nucleus::None => return NucleusWords {
-            case: 0,
-            first: 0,
-            second: 0,
-            third: 0,
-        },
-        Nucleus::Boolean(value) => return NucleusWords {
-            case: 1,
-            first: bit(value),
-            second: 0,
-            third: 0,
-        },
+        Nucleus::None => return of_case(0, 0, 0, 0),
+        Nucleus::Boolean(value) => return of_case(1, bit(value), 0, 0),
         Nucleus::Integer(x) => {
             let said = integer_words(x);
-            return NucleusWords {
-                case: 2,
-                first: said.variant,
-                second: said.value.lo,
-                third: said.value.hi,
-            };
+            return of_case(2, said.variant, said.value.lo, said.value.hi);
         }
         Nucleus::Float(value, stored) => return float_words(arg, value, stored),
-        Nucleus::Bytes(mark) => return NucleusWords {
-            case: 4,
-            first: mark.start as u64,
-            second: mark.len as u64,
-            third: bit(mark.lent),
-        },
-        Nucleus::Unit => return NucleusWords {
-            case: 5,
-            first: 0,
-            second: 0,
-            third: 0,
-        },
-        Nucleus::Named => return NucleusWords {
-            case: 6,
-            first: 0,
-            second: 0,
-            third: 0,
-        },
-        Nucleus::DynamicMap => return NucleusWords {
-            case: 7,
-            first: 0,
-            second: 0,
-            third: 0,
-        },
-        Nucleus::DynamicEnd => return NucleusWords {
-            case: 8,
-            first: 0,
-            second: 0,
-            third: 0,
-        },
+        Nucleus::Bytes(mark) => {
+            return of_case(4, mark.start as u64, mark.len as u64, bit(mark.lent));
+        }
+        Nucleus::Unit => return of_case(5, 0, 0, 0),
+        Nucleus::Named => return of_case(6, 0, 0, 0),
+        Nucleus::DynamicMap => return of_case(7, 0, 0, 0),
+        Nucleus::DynamicEnd => return of_case(8, 0, 0, 0),
     }
 }
 
@@ -262,6 +213,7 @@ pub fn say_atom(words: &mut [u64], answer: AtomAnswer) -> u64
 {
     match answer {
         AtomAnswer::Read(place, budget, atom) => {
+            let at = place.0 as u64;
             let arg = atom.arg;
             let kind = atom.kind;
             let code = kind.code() as u64;
@@ -270,7 +222,7 @@ pub fn say_atom(words: &mut [u64], answer: AtomAnswer) -> u64
             return say(
                 words,
                 0,
-                place.0 as u64,
+                at,
                 budget.0,
                 code,
                 arg,
@@ -281,20 +233,11 @@ pub fn say_atom(words: &mut [u64], answer: AtomAnswer) -> u64
             );
         }
         AtomAnswer::Refused(place, budget, refusal) => {
+            let at = place.0 as u64;
             let first = first_datum(refusal);
             let second = second_datum(refusal);
-            return say(
-                words,
-                refusal.number(),
-                place.0 as u64,
-                budget.0,
-                first,
-                second,
-                0,
-                0,
-                0,
-                0,
-            );
+            let number = refusal.number();
+            return say(words, number, at, budget.0, first, second, 0, 0, 0, 0);
         }
     }
 }

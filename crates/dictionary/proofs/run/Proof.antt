@@ -24,42 +24,70 @@ loop-holds c =
     let z : suc (length s) - 0 ≡ suc (length s) = omega arith in
     (search needs, search needs, ap (λ (f : ℕ). runFrom f s 0 (c .before .args .budget) 0) z)
 
+-- an atom passed by its first byte
+short-end-requires : tie.Need-short-end-requires Inv-loop μ-loop
+short-end-requires c κs = search needs
+
+add-atoms : tie.Need-add-atoms Inv-loop μ-loop
+add-atoms c = search needs
+
+sub-left : tie.Need-sub-left Inv-loop μ-loop
+sub-left c = search needs
+
+sub-left-2 : tie.Need-sub-left-2 Inv-loop μ-loop
+sub-left-2 c = search needs
+
+sub-left-3 : tie.Need-sub-left-3 Inv-loop μ-loop
+sub-left-3 c = omega (arith, c .before .short-end .ensures .1)
+
+loop-less : tie.Need-loop-less Inv-loop μ-loop
+loop-less c = omega (arith, c .before .short-end .ensures .0)
+
+loop-again : tie.Need-loop-again Inv-loop μ-loop
+loop-again c =
+    let s = now (c .before .before .before .before .before .args .source) in
+    let l = c .before .before .before .loop in
+    let r = c .before .short-end .result in
+    let e = c .before .short-end .ensures in
+    let same : r - l .at - 1 ≡ r - (l .at + 1) = omega arith in
+    (omega (arith, e .0), omega arith, ap (λ (n : ℕ). runFrom (suc (length s) - (l .atoms + 1)) s r (record { 0 = l .left - n }) (l .atoms + 1)) same ∙ sym (run-on s (suc (length s) - l .atoms) (suc (length s) - (l .atoms + 1)) (l .at) (record { 0 = l .left }) (l .atoms) (omega arith) _ _ _ _ (c .before .before .loop-test .taken) (e .2 (c .if1 .taken))) ∙ l .inv .2)
+
 skip-atom-requires : tie.Need-skip-atom-requires Inv-loop μ-loop
 skip-atom-requires c κs = search needs
 
 enum-known-place : tie.Need-enum-known-place Inv-loop μ-loop
 enum-known-place c = search needs
 
-add-atoms : tie.Need-add-atoms Inv-loop μ-loop
-add-atoms c = search needs
+add-atoms-2 : tie.Need-add-atoms-2 Inv-loop μ-loop
+add-atoms-2 c = search needs
 
-loop-less : tie.Need-loop-less Inv-loop μ-loop
-loop-less c =
-    let s = now (c .before .before .before .before .before .before .before .args .source) in
-    let l = c .before .before .before .before .before .loop in
+loop-less-2 : tie.Need-loop-less-2 Inv-loop μ-loop
+loop-less-2 c =
+    let s = now (c .before .before .before .before .before .before .before .before .before .args .source) in
+    let l = c .before .before .before .before .before .before .before .loop in
     let g = c .before .place .given in
     let e = sym (c .before .before .before .skip-atom .ensures) ∙ g .1 in
     omega (arith, forward s (l .at) (l .inv .0) _ (g .0 .0) (g .0 .1 .0) (g .0 .1 .1 .0) (g .0 .1 .1 .1 .0) e)
 
-loop-again : tie.Need-loop-again Inv-loop μ-loop
-loop-again c =
-    let s = now (c .before .before .before .before .before .before .before .args .source) in
-    let l = c .before .before .before .before .before .loop in
+loop-again-2 : tie.Need-loop-again-2 Inv-loop μ-loop
+loop-again-2 c =
+    let s = now (c .before .before .before .before .before .before .before .before .before .args .source) in
+    let l = c .before .before .before .before .before .before .before .loop in
     let g = c .before .place .given in
     let e = sym (c .before .before .before .skip-atom .ensures) ∙ g .1 in
     let k = forward s (l .at) (l .inv .0) _ (g .0 .0) (g .0 .1 .0) (g .0 .1 .1 .0) (g .0 .1 .1 .1 .0) e in
-    (omega arith, omega arith, sym (run-on s (suc (length s) - l .atoms) (suc (length s) - (l .atoms + 1)) (l .at) (record { 0 = l .left }) (l .atoms) (omega arith) (g .0 .0) (g .0 .1 .0) (g .0 .1 .1 .0) (g .0 .1 .1 .1 .0) (c .before .before .before .before .loop-test .taken) e) ∙ l .inv .2)
+    (omega arith, omega arith, sym (run-on s (suc (length s) - l .atoms) (suc (length s) - (l .atoms + 1)) (l .at) (record { 0 = l .left }) (l .atoms) (omega arith) (g .0 .0) (g .0 .1 .0) (g .0 .1 .1 .0) (g .0 .1 .1 .1 .0) (c .before .before .before .before .before .before .loop-test .taken) e) ∙ l .inv .2)
 
 enum-known-place-2 : tie.Need-enum-known-place-2 Inv-loop μ-loop
 enum-known-place-2 c = search needs
 
 returns : tie.Need-returns Inv-loop μ-loop
 returns c =
-    let s = now (c .before .before .before .before .before .before .before .args .source) in
-    let l = c .before .before .before .before .before .loop in
+    let s = now (c .before .before .before .before .before .before .before .before .before .args .source) in
+    let l = c .before .before .before .before .before .before .before .loop in
     let g = c .before .place2 .given in
     let e = sym (c .before .before .before .skip-atom .ensures) ∙ g .1 in
-    sym (run-stop s (suc (length s) - l .atoms) (length s - l .atoms) (l .at) (record { 0 = l .left }) (l .atoms) (omega arith) (g .0 .0) (g .0 .1 .0) (g .0 .1 .1 .0) (c .before .before .before .before .loop-test .taken) e) ∙ l .inv .2
+    sym (run-stop s (suc (length s) - l .atoms) (length s - l .atoms) (l .at) (record { 0 = l .left }) (l .atoms) (omega arith) (g .0 .0) (g .0 .1 .0) (g .0 .1 .1 .0) (c .before .before .before .before .before .before .loop-test .taken) e) ∙ l .inv .2
 
 returns-2 : tie.Need-returns-2 Inv-loop μ-loop
 returns-2 c =
@@ -74,11 +102,18 @@ run-spec =
     Inv-loop
     μ-loop
     loop-holds
-    skip-atom-requires
-    enum-known-place
+    short-end-requires
     add-atoms
+    sub-left
+    sub-left-2
+    sub-left-3
     loop-less
     loop-again
+    skip-atom-requires
+    enum-known-place
+    add-atoms-2
+    loop-less-2
+    loop-again-2
     enum-known-place-2
     returns
     returns-2)

@@ -1,12 +1,10 @@
 -- `words::say_atom` meets its contract: each arm says its case of the answer.
 use mathlib.Core.Path.{_∙_, sym, ap}
 use Prim.Native.Nat.{ℕ}
-use Rattle.words.specs.Layout.{says, saidAtom}
-use Rattle.words.proofs.Says.{tells, refuses}
 use denote.Ref.{now}
 use Rattle.words.specs.declared.NucleusWords.{NucleusWords}
-use Rattle.words.specs.Layout.{atomSaid}
-use Rattle.words.proofs.Says.{both}
+use Rattle.words.specs.Layout.{says, atomSaid, saidAtom}
+use Rattle.words.proofs.Says.{tells, refuses, both}
 use borrow.Author.Needs.{needs}
 use Rattle.words.proofs.say_atom.Statement.{statement}
 use Rattle.words.proofs.say_atom.Tie as tie
@@ -53,23 +51,7 @@ same-length-2 c = search needs
 
 returns-2 : tie.Need-returns-2
 unfolding saidAtom
-returns-2 c = let h = c .before .before .before .before .before .before .before .before .answer2 .given in tells (ap saidAtom (h .1) ∙ refuses (λ (n first second : ℕ). says n (h .0 .0 .0) (h .0 .1 .0 .0) first second 0 0 0 0) (h .0 .1 .1 .0) (c .before .before .before .number .ensures) (c .before .before .before .before .before .before .first-datum .ensures) (c .before .before .before .before .before .second-datum .ensures)) (now (c .before .before .before .before .before .before .before .before .before .before .before .args .words)) (c .before .before .say2 .ensures)
+returns-2 c = let h = c .before .before .before .before .before .before .before .before .answer2 .given in tells (ap saidAtom (h .1) ∙ refuses (λ (n first second : ℕ). says n (h .0 .0 .0) (h .0 .1 .0 .0) first second 0 0 0 0) (h .0 .1 .1 .0) (c .before .before .before .before .number .ensures) (c .before .before .before .before .before .before .first-datum .ensures) (c .before .before .before .before .before .second-datum .ensures)) (now (c .before .before .before .before .before .before .before .before .before .before .before .args .words)) (c .before .before .say2 .ensures)
 
 pub say-atom-spec : {M : Type 1} → statement M
-say-atom-spec =
-    tie.close
-    (tie.spec
-    enum-known-answer
-    code-requires
-    cast-code
-    nucleus-words-requires
-    say-requires
-    same-length
-    returns
-    enum-known-answer-2
-    first-datum-requires
-    second-datum-requires
-    number-requires
-    say-requires-2
-    same-length-2
-    returns-2)
+say-atom-spec = tie.close (tie.spec enum-known-answer code-requires cast-code nucleus-words-requires say-requires same-length returns enum-known-answer-2 first-datum-requires second-datum-requires number-requires say-requires-2 same-length-2 returns-2)

@@ -1,0 +1,169 @@
+//! The proved library's side: the exports of its loops, `crates/bench_loops`.
+
+use crate::{Found, Tally};
+
+extern "C" {
+    fn loop_read(
+        source: *const u8,
+        source_len: usize,
+        scratch: *mut u8,
+        scratch_len: usize,
+        budget: u64,
+        way: u64,
+        out: *mut u64,
+        out_len: usize,
+    ) -> u64;
+    fn loop_run(source: *const u8, source_len: usize, budget: u64, out: *mut u64, out_len: usize) -> u64;
+    fn loop_tally(source: *const u8, source_len: usize, out: *mut u64, out_len: usize) -> u64;
+    fn loop_write(
+        writer: u64,
+        text: *const u8,
+        text_len: usize,
+        values: *const u64,
+        values_len: usize,
+        out: *mut u8,
+        out_len: usize,
+    ) -> usize;
+}
+
+/// The ways of reading, by the number that `loop_read` takes.
+#[derive(Clone, Copy)]
+pub enum Way {
+    Filled = 0,
+    ExactLent = 1,
+    ExactCopied = 2,
+}
+
+/// Reads every atom; the error is the refusal's number.
+pub fn read(source: &[u8], budget: u64, scratch: &mut [u8], way: Way) -> Result<Found, u64> {
+    let mut out = [0; 4];
+    // SAFETY: each pointer comes with the length of its own live slice, and the mutable ones are distinct.
+    let refusal = unsafe {
+        loop_read(
+            source.as_ptr(),
+            source.len(),
+            scratch.as_mut_ptr(),
+            scratch.len(),
+            budget,
+            way as u64,
+            out.as_mut_ptr(),
+            out.len(),
+        )
+    };
+    let [sum, atoms, place, budget] = out;
+    if refusal == 0 { Ok(Found { sum, atoms, place, budget }) } else { Err(refusal) }
+}
+
+pub fn run(source: &[u8], budget: u64) -> Result<Found, u64> {
+    let mut out = [0; 4];
+    // SAFETY: as above.
+    let refusal = unsafe { loop_run(source.as_ptr(), source.len(), budget, out.as_mut_ptr(), out.len()) };
+    let [atoms, place, budget, _] = out;
+    if refusal == 0 { Ok(Found { sum: 0, atoms, place, budget }) } else { Err(refusal) }
+}
+
+pub fn tally(source: &[u8]) -> Result<Tally, u64> {
+    let mut out = [0; 4];
+    // SAFETY: as above.
+    let refusal = unsafe { loop_tally(source.as_ptr(), source.len(), out.as_mut_ptr(), out.len()) };
+    let [atoms, body, charge, letters] = out;
+    if refusal == 0 { Ok(Tally { atoms, body, charge, letters }) } else { Err(refusal) }
+}
+
+/// The writers, by the number that `loop_write` takes.
+#[derive(Clone, Copy)]
+pub enum Writer {
+    I8,
+    I16,
+    I24,
+    I32,
+    I48,
+    I64,
+    I128,
+    U8,
+    U16,
+    U24,
+    U32,
+    U48,
+    U64,
+    U128,
+    F32,
+    F64,
+    Special,
+    Bool,
+    AtomHeader,
+    Header,
+    Bytes,
+}
+
+/// Writes values of two words each, low and high, one after another; answers how many bytes they take.
+pub fn write(writer: Writer, text: &[u8], values: &[[u64; 2]], out: &mut [u8]) -> usize {
+    let values = values.as_flattened();
+    // SAFETY: each pointer comes with the length of its own live slice.
+    unsafe {
+        loop_write(
+            writer as u64,
+            text.as_ptr(),
+            text.len(),
+            values.as_ptr(),
+            values.len(),
+            out.as_mut_ptr(),
+            out.len(),
+        )
+    }
+}
+
+// The library's own exports, `crates/exports`: each answers 0 or a refusal's number, and eight words.
+#[cfg(feature = "exports")]
+extern "C" {
+    fn pot_read_atom(
+        source: *const u8,
+        source_len: usize,
+        place: usize,
+        budget: u64,
+        words: *mut u64,
+        words_len: usize,
+    ) -> u64;
+    fn pot_read_atom_exact(
+        source: *const u8,
+        source_len: usize,
+        place: usize,
+        budget: u64,
+        words: *mut u64,
+        words_len: usize,
+    ) -> u64;
+    fn pot_read_atom_copied(
+        source: *const u8,
+        source_len: usize,
+        place: usize,
+        budget: u64,
+        scratch: *mut u8,
+        scratch_len: usize,
+        words: *mut u64,
+        words_len: usize,
+    ) -> u64;
+}
+
+/// One atom through the exports.
+#[cfg(feature = "exports")]
+pub fn read_one(
+    source: &[u8],
+    place: usize,
+    budget: u64,
+    scratch: &mut [u8],
+    way: Way,
+    words: &mut [u64; 8],
+) -> u64 {
+    let (at, length) = (source.as_ptr(), source.len());
+    // SAFETY: each pointer comes with the length of its own live slice, and the mutable ones are distinct.
+    unsafe {
+        match way {
+            Way::Filled => pot_read_atom(at, length, place, budget, words.as_mut_ptr(), 8),
+            Way::ExactLent => pot_read_atom_exact(at, length, place, budget, words.as_mut_ptr(), 8),
+            Way::ExactCopied => {
+                let (room, size) = (scratch.as_mut_ptr(), scratch.len());
+                pot_read_atom_copied(at, length, place, budget, room, size, words.as_mut_ptr(), 8)
+            }
+        }
+    }
+}
