@@ -464,10 +464,10 @@ pub fn as_float(x: Integer) -> AsFloat
 }
 
 // `From`: the narrowest variant that holds the value. An unsigned value tries the unsigned type of half the width.
-pub fn from_u8(value: u8) -> Integer
-    ensures { λ r. ⌜ r ≡ from unsigned w8 (pos value) ⌝ }
+pub fn from_u8(byte: u8) -> Integer
+    ensures { λ r. ⌜ r ≡ from unsigned w8 (pos byte) ⌝ }
 {
-    Integer::U8(value)
+    Integer::U8(byte)
 }
 
 pub fn from_u16(value: u16) -> Integer
@@ -507,10 +507,10 @@ pub fn from_u128(value: Wide) -> Integer
 }
 
 // A signed value tries the signed type of half the width, and then the unsigned one.
-pub fn from_i8(value: i8) -> Integer
-    ensures { λ r. ⌜ r ≡ from signed w8 value ⌝ }
+pub fn from_i8(byte: i8) -> Integer
+    ensures { λ r. ⌜ r ≡ from signed w8 byte ⌝ }
 {
-    Integer::I8(value)
+    Integer::I8(byte)
 }
 
 pub fn from_i16(value: i16) -> Integer

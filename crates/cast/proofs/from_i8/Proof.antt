@@ -9,7 +9,7 @@ use Rattle.cast.proofs.from_i8.Tie as tie
 
 returns : tie.Need-returns
 unfolding from
-returns c = ap I.I8 (toZ-ofZ w8 (c .args .value) (c .fits .value))
+returns c = ap I.I8 (toZ-ofZ w8 (c .args .byte) (c .fits .byte))
 
 pub from-i8-spec : {M : Type 1} → statement M
 from-i8-spec = tie.close (tie.spec returns)

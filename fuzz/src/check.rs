@@ -1,0 +1,128 @@
+//! One call asked of both, and everything that it may change compared.
+
+use oracle::wire::{Reading, Way};
+
+use crate::call::{Call, Room};
+use crate::expected::{Judge, Said};
+use crate::lent::Lent;
+use crate::proved::{ask, halves, Slice, Slices};
+
+const NO_ROOM: u64 = 9;
+/// The most atoms of a walk: under filled reading past refused atoms it could go on for long.
+const LONGEST_WALK: usize = 300;
+
+pub struct Checker {
+    judge: Judge,
+    source: Lent,
+    bytes: Lent,
+    words: Lent,
+}
+
+impl Checker {
+    pub fn new() -> Self {
+        Self { judge: Judge::new(), source: Lent::new(), bytes: Lent::new(), words: Lent::new() }
+    }
+
+    /// Compares one call, and what it wrote is read back by every way.
+    pub fn check(&mut self, call: &Call<'_>, room: Room) {
+        if let Call::Walk(budget, way, source) = *call {
+            return self.walk(budget, way, source, room);
+        }
+        let Some(said) = self.compare(call, room) else { return };
+        let copied = matches!(call, Call::ReadAtom(..));
+        if !copied && !said.bytes.is_empty() {
+            self.read_back(call, &said.bytes);
+        }
+    }
+
+    fn read_back(&mut self, call: &Call<'_>, written: &[u8]) {
+        let room = Room { words: 8, bytes: written.len() };
+        for way in Way::ALL {
+            let reading = Reading { way, place: 0, source: written };
+            let read = match call {
+                Call::WriteHeader(_) => Call::ReadHeader(reading),
+                _ => Call::ReadAtom(u64::MAX, reading),
+            };
+            let said = self.compare(&read, room).expect("every signature and atom has an answer");
+            if let Call::WriteInteger(_, bits) = *call {
+                let (low, high) = halves(bits);
+                assert_eq!((said.words[6], said.words[7]), (low, high), "not what was written: {call:?}");
+            }
+        }
+    }
+
+    /// One atom after another, past refused ones too, until the end or until the place stays.
+    fn walk(&mut self, mut budget: u64, way: Way, source: &[u8], room: Room) {
+        let room = Room { words: room.words.max(8), ..room };
+        let mut place = 0;
+        for _ in 0..LONGEST_WALK {
+            let call = Call::ReadAtom(budget, Reading { way, place, source });
+            let said = self.compare(&call, room).expect("every atom has an answer");
+            let stays = said.words[0] == place;
+            (place, budget) = (said.words[0], said.words[1]);
+            if stays || place >= source.len() as u64 {
+                return;
+            }
+        }
+    }
+
+    /// Asks both and compares; hands back what was expected, or nothing if the call is outside the domain.
+    fn compare(&mut self, call: &Call<'_>, room: Room) -> Option<Said> {
+        let full = self.judge.expected(call)?;
+        let fits = self.with_room(call, full, room.bytes);
+        let short = room.words < 8;
+        let said = if short { Said { number: NO_ROOM, words: [0; 8], bytes: vec![] } } else { fits };
+        let words: Vec<u8> = said.words.iter().flat_map(|word| word.to_ne_bytes()).collect();
+        let first_words = if short { &[][..] } else { &words };
+
+        let source = call.source();
+        self.source.fill(source.len(), source);
+        self.bytes.fill(room.bytes, &[]);
+        self.words.fill(8 * room.words, &[]);
+        let lent = Slices {
+            source: Slice { start: self.source.start(source.len()), length: source.len() },
+            bytes: Slice { start: self.bytes.start(room.bytes), length: room.bytes },
+            words: Slice { start: self.words.start(8 * room.words).cast(), length: room.words },
+        };
+        // SAFETY: three buffers of those lengths, each in a room of its own.
+        let number = unsafe { ask(call, &lent) };
+
+        let same = number == said.number
+            && self.words.holds(8 * room.words, first_words)
+            && self.bytes.holds(room.bytes, &said.bytes)
+            && self.source.holds(source.len(), source);
+        if !same {
+            self.report(call, room, number, &said);
+        }
+        Some(said)
+    }
+
+    /// The answer where the output or the scratch has that room: "output shorter than the whole write; scratch shorter
+    /// than the string", of the scratch "past header, charged".
+    fn with_room(&mut self, call: &Call<'_>, said: Said, room: usize) -> Said {
+        if said.bytes.len() <= room {
+            return said;
+        }
+        let mut words = [0; 8];
+        if let Call::ReadAtom(_, reading) = *call {
+            words[0] = self.judge.header(reading).words[0];
+            words[1] = said.words[1];
+        }
+        Said { number: NO_ROOM, words, bytes: vec![] }
+    }
+
+    fn report(&mut self, call: &Call<'_>, room: Room, number: u64, said: &Said) -> ! {
+        eprintln!("a difference: {call:x?} with {room:?}");
+        eprintln!("expected: {said:x?}");
+        eprintln!("answered: number {number}");
+        let words: Vec<u64> = self.words.buffer(8 * room.words).chunks_exact(8).map(word).collect();
+        eprintln!("words: {words:x?}");
+        eprintln!("bytes: {:x?}", &self.bytes.buffer(room.bytes));
+        eprintln!("source kept: {}", self.source.holds(call.source().len(), call.source()));
+        std::process::abort();
+    }
+}
+
+fn word(bytes: &[u8]) -> u64 {
+    u64::from_ne_bytes(bytes.try_into().expect("eight bytes"))
+}

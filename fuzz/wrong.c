@@ -1,0 +1,32 @@
+/* Exports that keep their answers and break what a lender is promised; each is tried alone by self-check. */
+#include "dimewagon.h"
+
+#ifdef WRONG_write_none
+uint64_t right_write_none(uint8_t *out, size_t out_len, uint64_t *words, size_t words_len);
+
+/* Touches a byte that it does not count. */
+uint64_t pot_write_none(uint8_t *out, size_t out_len, uint64_t *words, size_t words_len) {
+    if (out_len > 1 && words_len >= POT_WORDS) out[1] = 0;
+    return right_write_none(out, out_len, words, words_len);
+}
+#endif
+
+#ifdef WRONG_f32_as_f64
+uint64_t right_f32_as_f64(uint32_t bits, uint64_t *words, size_t words_len);
+
+/* Writes to words that are too few. */
+uint64_t pot_f32_as_f64(uint32_t bits, uint64_t *words, size_t words_len) {
+    if (words_len == POT_WORDS - 1) words[0] = 0;
+    return right_f32_as_f64(bits, words, words_len);
+}
+#endif
+
+#ifdef WRONG_read_header
+uint64_t right_read_header(const uint8_t *source, size_t source_len, size_t place, uint64_t *words, size_t words_len);
+
+/* Reads the byte past the source. */
+uint64_t pot_read_header(const uint8_t *source, size_t source_len, size_t place, uint64_t *words, size_t words_len) {
+    (void)*(const volatile uint8_t *)(source + source_len);
+    return right_read_header(source, source_len, place, words, words_len);
+}
+#endif
