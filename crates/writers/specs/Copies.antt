@@ -1,4 +1,4 @@
--- A string copied over itself in parts: what a buffer holds meanwhile.
+-- A string copied in parts that may overlap: what the buffer holds meanwhile.
 use Prim.Native.Nat.{ℕ, _+_, _≤_}
 use mathlib.Core.Path.{_≡_}
 use mathlib.Core.List.{List, _++_}

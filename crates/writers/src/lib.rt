@@ -300,7 +300,7 @@ fn copy_blocks(out: &mut [u8], source: &[u8])
 }
 
 // Copies a string that has its room. A short one goes four bytes at a time, the last four over those before them, so that
-// few branches hang on its length.
+// few branches hang on its length; a long one goes in blocks.
 fn copy(out: &mut [u8], source: &[u8])
     requires { ⌜ length (now source) ≤ length (now out) ⌝ }
     ensures { λ r. ⌜ now (out .exit) ≡ now (source .entry) ++ drop (length (now (source .entry))) (now (out .entry)) ⌝ }

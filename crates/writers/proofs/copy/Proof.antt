@@ -1,4 +1,4 @@
--- `writers::copy` meets its contract: a short string by its fours, any other by the loop.
+-- `writers::copy` meets its contract: a short string by its fours, the shortest by the loop, and any other by blocks.
 use native.Mathlib.Omega.{arith}
 use denote.Ref.{now}
 use Rattle.writers.proofs.Copies.{twice, four-times}
