@@ -1,6 +1,6 @@
--- The plain types of the functions over the reader, and the four answers with the structs that hold each beside the reader.
+-- The plain types of the functions over the reader, the four answers with the structs that hold each beside the reader, and what a slice gives of each.
 use mathlib.Core.Path.{refl}
-use mathlib.Core.List.{[]}
+use mathlib.Core.List.{[], _∷_}
 use mir.Syntax.{erased}
 use denote.Builtin.{u64, usize, bool}
 use denote.Ref.{NamedLft}
@@ -24,7 +24,9 @@ use Rattle.slice_reader.specs.declared.StringRead as StringRead
 use Rattle.slice_reader.proofs.StringRead as StringRead′
 use Rattle.slice_reader.specs.declared.AtomRead as AtomRead
 use Rattle.slice_reader.proofs.AtomRead as AtomRead′
+use Rattle.slice_reader.specs.Given.{integerGiven, floatGiven, stringGiven, atomGiven}
 use Rattle.slice_reader.proofs.Plain.{Param, number, truth, of-enum, of-struct, Beside}
+use Rattle.slice_reader.proofs.Reading.{Gift}
 
 abbrev pub count : Param
 count = record { type = u64; plain = number }
@@ -112,3 +114,15 @@ atoms = record {
   eta = λ d. refl;
   beta = λ a r. refl;
 }
+
+abbrev pub integer-given : Gift integers (kind ∷ count ∷ [])
+integer-given κs s a = integerGiven s (a .0) (a .1 .0)
+
+abbrev pub float-given : Gift floats (kind ∷ count ∷ [])
+float-given κs s a = floatGiven s (a .0) (a .1 .0)
+
+abbrev pub string-given : Gift strings (count ∷ [])
+string-given κs s a = stringGiven s (a .0)
+
+abbrev pub atom-given : Gift atoms (budget ∷ [])
+atom-given κs s a = atomGiven s (a .0)

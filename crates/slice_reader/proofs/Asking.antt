@@ -1,4 +1,4 @@
--- A plain value that the reader is asked for: the contract of the function, and what is left to show of it once its MIR is walked.
+-- A plain value that the reader is asked for: what is found of it, and what is left to show once the function's MIR is walked.
 -- Assumes nothing.
 use mathlib.Core.Path.{_≡_, refl}
 use Prim.Native.Nat.{ℕ}
@@ -11,7 +11,6 @@ use base.Logic.{SProp, ent, emp, via, fst∗}
 use base.Fml.{Lft, Share, ftrue, flft}
 use prog.Wp.{Heap, WpFn, Tables}
 use ghost.Atoms.{Atoms}
-use contract.Monad.{fact}
 use types.Kit.{Given, ‵, _⊛_, _$_, _∵_, !, qed, suffices, frame, done}
 use sound.WpLaws.{WpFn-mono}
 use denote.RattleType.{owns}
@@ -29,6 +28,7 @@ use Rattle.slice_reader.specs.declared.SliceReader.{SliceReader}
 use Rattle.slice_reader.proofs.SliceReader as T
 use Rattle.slice_reader.proofs.SliceReader.Laws as T′
 use Rattle.slice_reader.proofs.Plain.{Param}
+use Rattle.slice_reader.proofs.Found.{Finding, finds}
 use Rattle.slice_reader.proofs.Reading.{Reader}
 
 -- Q is the value's type, and f says it of the bytes still to be read
@@ -36,8 +36,11 @@ module _ (Q : Param) (f : List ℕ → Q .type .Denot) where
   abbrev pub asking : Ended
   asking = record { signature = record { lifetimes = 1; outlives = []; params = plain Reader ∷ []; result = plain (λ _. Q .type) }; kept = (yes, tt) }
 
+  abbrev pub asked : Finding asking
+  asked κs a r = r ≡ f (now (a .0 .«data»))
+
   abbrev pub asks : {M : Type 1} (𝓤 : URA M) → Clauses 𝓤 asking
-  asks 𝓤 κs a = record { ghost = Unit {0}; requires = λ g. emp 𝓤; ensures = λ g r e. fact 𝓤 (r ≡ f (now (a .0 .«data»))) }
+  asks = finds asking asked
 
   module _ {M : Type 1} (𝓤 : URA M) (H : Heap 𝓤) (A : Atoms 𝓤) (W : Given 𝓤 H A) where
     module _ (κ : Lft) (q : Share) (d : SliceReader) where

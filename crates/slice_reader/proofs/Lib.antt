@@ -1,9 +1,11 @@
+pub mod Found
 pub mod Shut
 pub mod Plain
-pub mod Answers
 pub mod Reading
+pub mod Answers
 pub mod RestOf
 pub mod Asking
 pub mod FromSlice
 pub mod Leaves
+pub mod Heard
 pub mod One

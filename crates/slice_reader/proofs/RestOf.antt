@@ -1,4 +1,4 @@
--- `rest` of every struct that holds an answer beside the reader meets its contract, by one law over the answer's type: a walk of its MIR, by hand. The slice that the reader beside the answer holds is handed back.
+-- `rest` of every struct that holds an answer beside the reader is found, by one law over the answer's type, to hand back the slice that the reader beside the answer holds: a walk of its MIR, by hand.
 -- The struct is Copy: what it owns is had twice, one copy is kept whole for the exit, and of the other what the slice owns is taken, through the reader, for the result.
 -- Assumes nothing.
 use mathlib.Core.Path.{_≡_, refl}
@@ -13,7 +13,6 @@ use base.Fml.{Lft, Share, Fml, ftrue, flft}
 use prog.Wp.{Heap, WpFn, Tables}
 use ghost.Atoms.{Atoms}
 use contract.Lifetimes.{Lfts}
-use contract.Monad.{fact}
 use types.Kit.{Given, ‵, _⊛_, given, _$_, _∵_, !, qed, by, move, drop, use1, split, learn, fsplit, fjoin, suffices, frame, done}
 use types.Part.{whole, sub, look-in}
 use types.Run.{look, init, forget, stop, fld, from, load, of-opd, assigns, returns, enter, alloc1, alloc0, params1, pass1, pass0, free1, free0}
@@ -34,7 +33,15 @@ use denote.Triple.Clauses.{Ended, Clauses, closing}
 use Rattle.slice_reader.proofs.SliceReader as T
 use Rattle.slice_reader.proofs.SliceReader.Laws as T′
 use Rattle.slice_reader.proofs.Plain.{last, silent, Beside, held, held-laws, held-copy, held-still}
-use Rattle.slice_reader.proofs.Reading.{slice}
+use Rattle.slice_reader.proofs.Found.{Finding, finds}
+use Rattle.slice_reader.proofs.Reading.{Reader, slice}
+
+-- `rest` of the reader itself: its signature, and what is found of it
+abbrev pub handing : Ended
+handing = record { signature = record { lifetimes = 1; outlives = []; params = plain Reader ∷ []; result = slice }; kept = (yes, tt) }
+
+abbrev pub handed : Finding handing
+handed κs a r = r ≡ a .0 .«data»
 
 module _ (X : Beside) where
   -- the struct's type, over the signature's lifetimes
@@ -44,8 +51,11 @@ module _ (X : Beside) where
   abbrev pub resting : Ended
   resting = record { signature = record { lifetimes = 1; outlives = []; params = plain Held ∷ []; result = slice }; kept = (yes, tt) }
 
+  abbrev pub rested : Finding resting
+  rested κs a r = r ≡ X .reader (a .0) .«data»
+
   abbrev pub rests : {M : Type 1} (𝓤 : URA M) → Clauses 𝓤 resting
-  rests 𝓤 κs a = record { ghost = Unit {0}; requires = λ g. emp 𝓤; ensures = λ g r e. fact 𝓤 (r ≡ X .reader (a .0) .«data») }
+  rests = finds resting rested
 
   abbrev pub rest-function : Fn
   rest-function = record {

@@ -10,12 +10,10 @@ use mir.Syntax.{named}
 use mir.Val.{Val, WT, hasTy}
 use base.Logic.{SProp, ent, emp, via, fst∗}
 use base.Fml.{Lft, Share, Fml, ftrue, flft}
-use prog.Memory.{Memory}
-use prog.Routine.{Routine}
 use prog.Wp.{Heap, Calls, Loops, WpFn, Tables}
 use ghost.Atoms.{Atoms}
 use contract.Lifetimes.{Lfts}
-use contract.Monad.{Fun}
+use contract.Monad.{fact-mono}
 use contract.Running.{givenOf, tables, tablesOf}
 use types.Kit.{Given, ‵, _⊛_, given, _$_, _∵_, !, qed, by, move, drop, use1, split, learn, fsplit, fjoin, suffices, frame, done}
 use types.Part.{whole, sub, look-in}
@@ -29,16 +27,18 @@ use denote.Struct.Laws as LL
 use denote.Struct.Rest.{all-own, ownAt, rest, own-open, own-out}
 use denote.Struct.Values.{Values}
 use denote.Triple.Entry.{onEntry}
-use denote.Triple.Spec.{Meets, tripleOf}
-use denote.Triple.Table.{entered}
+use denote.Triple.Spec.{Meets}
 use denote.Triple.Walked.{says, Stays, stay-none, walkOf, goes-none, Walks, ends-at, walked, walk-meets}
 use denote.Exit.{yes}
+use denote.Triple.Clauses.{closing}
 use Rattle.slice_reader.specs.declared.SliceReader.{SliceReader}
 use Rattle.slice_reader.proofs.SliceReader as T
 use Rattle.slice_reader.proofs.SliceReader.Laws as T′
+use Rattle.slice_reader.proofs.Found.{Follows, finds, stated}
+use Rattle.slice_reader.proofs.RestOf.{handed}
 use Rattle.slice_reader.proofs.SliceReader.rest.Key.{name as #slice-reader·rest}
 use Rattle.slice_reader.proofs.SliceReader.rest as rest′
-use Rattle.slice_reader.proofs.SliceReader.rest.Statement as stated
+use Rattle.slice_reader.proofs.SliceReader.rest.Statement as statement
 use Rattle.slice_reader.proofs.SliceReader.rest.Code as code
 
 -- the struct's type, over the signature's lifetimes
@@ -48,7 +48,7 @@ B κs = T.the-row (namedLft 1 0 tt κs)
 abbrev stayed : Stays (rest′.ended .signature .params) (rest′.ended .kept)
 stayed = (stay-none B yes, tt)
 
-module _ {M : Type 1} (𝓤 : URA M) (H : Heap 𝓤) (A : Atoms 𝓤) (W : Given 𝓤 H A) (mem : Memory → SProp 𝓤) (run : Routine → Fun 𝓤) (κ : Lft) (q : Share) (d : SliceReader) where
+module _ {M : Type 1} (𝓤 : URA M) (H : Heap 𝓤) (A : Atoms 𝓤) (W : Given 𝓤 H A) (κ : Lft) (q : Share) (d : SliceReader) where
   abbrev mach : Val
   mach = T′.lowered d
 
@@ -57,7 +57,7 @@ module _ {M : Type 1} (𝓤 : URA M) (H : Heap 𝓤) (A : Atoms 𝓤) (W : Given
   v = sliceVal (d .«data» .ptr) (length (d .«data» .now))
 
   abbrev Post : Val → SProp 𝓤
-  Post = walkOf 𝓤 H A rest′.ended stayed (rest′.clauses 𝓤 H A mem run) .post (((κ, tt), (q, tt), tt, (d, tt), (mach ∷ [], tt)), tt)
+  Post = walkOf 𝓤 H A rest′.ended stayed (finds rest′.ended handed 𝓤) .post (((κ, tt), (q, tt), tt, (d, tt), (mach ∷ [], tt)), tt)
 
   abbrev Own : Fml
   Own = B (κ, tt) .own d (mach ∷ [])
@@ -75,7 +75,7 @@ module _ {M : Type 1} (𝓤 : URA M) (H : Heap 𝓤) (A : Atoms 𝓤) (W : Given
   exits : ent 𝓤 (onEntry 𝓤 H A rest′.signature (κ, tt) (q, tt) (d, tt) (mach ∷ [], tt)) (Post v)
   exits =
       qed W ((‵ (flft κ q) ⊛ ‵ ftrue) ∷ ‵ (owns (B (κ, tt) ∷ []) (d, tt) (mach ∷ [], tt)) ∷ []) ∵
-      suffices ! _ (ends-at 𝓤 H A rest′.ended stayed (rest′.clauses 𝓤 H A mem run) W (((κ, tt), (q, tt), tt, (d, tt), (mach ∷ [], tt)), tt) v (d .«data») (tt, tt) (tt, tt)) $ says ! refl $
+      suffices ! _ (ends-at 𝓤 H A rest′.ended stayed (finds rest′.ended handed 𝓤) W (((κ, tt), (q, tt), tt, (d, tt), (mach ∷ [], tt)), tt) v (d .«data») (tt, tt) (tt, tt)) $ says ! refl $
       frame ! $ fsplit ! $ use1 W (‵ Own ⊛ ‵ Own) (LL.copy D (T′.the-copy (namedLft 1 0 tt (κ, tt))) 𝓤 H A W .twice d (mach ∷ [])) $ split ! $ move ! (0 ∷ 2 ∷ []) $ fjoin ! $ frame ! $
       -- [what the struct owns]: the slice's part is taken out of it
       use1 W (given (mach ∷ [] ≡ mach ∷ []) (‵ (all-own (D .parts) L vd))) (own-open 𝓤 H A W D L vd mach) $ learn ! (λ _. use1 W (‵ (ownAt (D .parts) L 0 (d .«data»)) ⊛ ‵ (rest (D .parts) L 0 vd)) (own-out 𝓤 H A W (D .parts) L 0 vd) $ split ! $ move ! (1 ∷ []) $ drop ! $ done !)
@@ -88,18 +88,19 @@ module _ {M : Type 1} (𝓤 : URA M) (H : Heap 𝓤) (A : Atoms 𝓤) (W : Given
         assigns ! (of-opd ! (load ! (from ! (fld ! refl (stop !))) (look-in ! 0 (sub ! 0 refl (whole !))))) (from ! (stop !)) (init ! 2 refl (tt, wt .1 .0)) $
         returns ! (look ! 2 refl) $ forget ! 0 refl $ forget ! 2 refl $ move ! (2 ∷ 3 ∷ []) $ free1 ! $ free1 ! $ free0 ! $ by ! exits))
 
-module _ {M : Type 1} (𝓤 : URA M) (H : Heap 𝓤) (A : Atoms 𝓤) (W : Given 𝓤 H A) (mem : Memory → SProp 𝓤) (run : Routine → Fun 𝓤) where
-  rest-walks : (C : Calls 𝓤 H) (Λ : Loops 𝓤 H) → Walks 𝓤 H A rest′.ended stayed (WpFn 𝓤 H C Λ code.function) (rest′.clauses 𝓤 H A mem run)
-  rest-walks C Λ = walked 𝓤 H A rest′.ended stayed (rest′.clauses 𝓤 H A mem run) (WpFn 𝓤 H C Λ code.function) (λ κs. (LL.vals (T.the-type (namedLft 1 0 tt κs)) (T′.the-laws (namedLft 1 0 tt κs)), tt)) (λ κs. (LL.tells (T.the-type (namedLft 1 0 tt κs)) (T′.the-laws (namedLft 1 0 tt κs)), tt))
-      (λ κs qs bounds a g are. via 𝓤 _ (fst∗ 𝓤 _ (emp 𝓤)) (walk 𝓤 H A W mem run (κs .0) (qs .0) (a .0) C Λ (LL.lawful (T.the-type (namedLft 1 0 tt κs)) (T′.the-laws (namedLft 1 0 tt κs)) 𝓤 H A W .typed (a .0) _ (are .0) .0)))
+module _ {M : Type 1} (𝓤 : URA M) (H : Heap 𝓤) (A : Atoms 𝓤) (W : Given 𝓤 H A) where
+  rest-walks : (C : Calls 𝓤 H) (Λ : Loops 𝓤 H) → Walks 𝓤 H A rest′.ended stayed (WpFn 𝓤 H C Λ code.function) (finds rest′.ended handed 𝓤)
+  rest-walks C Λ = walked 𝓤 H A rest′.ended stayed (finds rest′.ended handed 𝓤) (WpFn 𝓤 H C Λ code.function) (λ κs. (LL.vals (T.the-type (namedLft 1 0 tt κs)) (T′.the-laws (namedLft 1 0 tt κs)), tt)) (λ κs. (LL.tells (T.the-type (namedLft 1 0 tt κs)) (T′.the-laws (namedLft 1 0 tt κs)), tt))
+      (λ κs qs bounds a g are. via 𝓤 _ (fst∗ 𝓤 _ (emp 𝓤)) (walk 𝓤 H A W (κs .0) (qs .0) (a .0) C Λ (LL.lawful (T.the-type (namedLft 1 0 tt κs)) (T′.the-laws (namedLft 1 0 tt κs)) 𝓤 H A W .typed (a .0) _ (are .0) .0)))
 
-rest-meets : {M : Type 1} (𝓤 : URA M) (H : Heap 𝓤) (A : Atoms 𝓤) → Given 𝓤 H A → (mem : Memory → SProp 𝓤) (run : Routine → Fun 𝓤) (𝓣 : Tables 𝓤 H)
-    → Meets 𝓤 H A rest′.signature (WpFn 𝓤 H (𝓣 .C) (𝓣 .Λ) code.function) (rest′.spec 𝓤 H A mem run)
-rest-meets 𝓤 H A W mem run 𝓣 = walk-meets 𝓤 H A rest′.ended stayed W (goes-none 𝓤 H A W 1 B yes (λ κs x f. refl), tt) (rest′.clauses 𝓤 H A mem run) (WpFn 𝓤 H (𝓣 .C) (𝓣 .Λ) code.function) (WpFn-mono 𝓤 H (W .laws) 𝓣 code.function) (rest-walks 𝓤 H A W mem run (𝓣 .C) (𝓣 .Λ))
+rest-meets : {M : Type 1} (𝓤 : URA M) (H : Heap 𝓤) (A : Atoms 𝓤) → Given 𝓤 H A → (𝓣 : Tables 𝓤 H)
+    → Meets 𝓤 H A rest′.signature (WpFn 𝓤 H (𝓣 .C) (𝓣 .Λ) code.function) (closing 𝓤 H A rest′.ended (finds rest′.ended handed 𝓤))
+rest-meets 𝓤 H A W 𝓣 = walk-meets 𝓤 H A rest′.ended stayed W (goes-none 𝓤 H A W 1 B yes (λ κs x f. refl), tt) (finds rest′.ended handed 𝓤) (WpFn 𝓤 H (𝓣 .C) (𝓣 .Λ) code.function) (WpFn-mono 𝓤 H (W .laws) 𝓣 code.function) (rest-walks 𝓤 H A W (𝓣 .C) (𝓣 .Λ))
 
-pub rest-spec : {M : Type 1} → stated.statement M
+-- the contract, from what is found
+clause : Follows rest′.ended handed (λ M 𝓤. rest′.clauses 𝓤)
+clause = record { follows = λ 𝓤 H A mem run κs a g r e. fact-mono 𝓤 _ _ (λ f. simp f) }
+
+pub rest-spec : {M : Type 1} → statement.statement M
 unfolding code.routine tablesOf
-rest-spec 𝓤 H 𝓜 𝓖 𝓡 =
-    entered 𝓤 H (tripleOf 𝓤 H (𝓖 .A) rest′.signature (rest′.spec 𝓤 H (𝓖 .A) (𝓜 .mem) (𝓡 .run)))
-    (tables 𝓤 H 𝓜 𝓡 code.env .C) (tables 𝓤 H 𝓜 𝓡 code.env .Λ) #slice-reader·rest code.function (code.unfolded 𝓤 H 𝓜 𝓡)
-    (rest-meets 𝓤 H (𝓖 .A) (givenOf 𝓤 H 𝓜 𝓖) (𝓜 .mem) (𝓡 .run) (tablesOf 𝓤 H 𝓜 (tables 𝓤 H 𝓜 𝓡 code.env)))
+rest-spec 𝓤 H 𝓜 𝓖 𝓡 = stated 𝓤 H 𝓜 𝓖 𝓡 code.env clause #slice-reader·rest code.function (code.unfolded 𝓤 H 𝓜 𝓡) (rest-meets 𝓤 H (𝓖 .A) (givenOf 𝓤 H 𝓜 𝓖) (tablesOf 𝓤 H 𝓜 (tables 𝓤 H 𝓜 𝓡 code.env)))
