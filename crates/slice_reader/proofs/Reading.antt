@@ -43,7 +43,7 @@ use Rattle.slice_reader.specs.Left.{LeftOf}
 use Rattle.slice_reader.specs.declared.SliceReader.{SliceReader}
 use Rattle.slice_reader.proofs.SliceReader as T
 use Rattle.slice_reader.proofs.SliceReader.Laws as T′
-use Rattle.slice_reader.proofs.Plain.{Plain, Param, slots, kepts, stays, Rows, spells, tellss, machines, lasts-of, fits-of, had, goes, Beside, Answer, plain-answer, held, held-laws}
+use Rattle.slice_reader.proofs.Plain.{Param, slots, kepts, stays, Rows, spells, tellss, machines, lasts-of, fits-of, had, goes, Beside, Answer, plain-answer, held, held-laws}
 use Rattle.slice_reader.proofs.Found.{Finding, finds, said}
 use Rattle.slice_reader.proofs.Shut.{shut}
 

@@ -210,7 +210,7 @@ impl<'a> SliceReader<'a> {
 impl<'a> IntegerRead<'a> {
     // The slice still to be read after an integer.
     pub fn rest(self) -> &'a [u8]
-        ensures { λ r. ⌜ r ≡ self .entry .reader .«data» ⌝ }
+        ensures { λ afterInteger. ⌜ afterInteger ≡ self .entry .reader .«data» ⌝ }
     {
         self.reader.data
     }
@@ -219,7 +219,7 @@ impl<'a> IntegerRead<'a> {
 impl<'a> FloatRead<'a> {
     // The slice still to be read after a float.
     pub fn rest(self) -> &'a [u8]
-        ensures { λ r. ⌜ r ≡ self .entry .reader .«data» ⌝ }
+        ensures { λ afterFloat. ⌜ afterFloat ≡ self .entry .reader .«data» ⌝ }
     {
         self.reader.data
     }
@@ -228,7 +228,7 @@ impl<'a> FloatRead<'a> {
 impl<'a> StringRead<'a> {
     // The slice still to be read after a string.
     pub fn rest(self) -> &'a [u8]
-        ensures { λ r. ⌜ r ≡ self .entry .reader .«data» ⌝ }
+        ensures { λ afterString. ⌜ afterString ≡ self .entry .reader .«data» ⌝ }
     {
         self.reader.data
     }
@@ -237,7 +237,7 @@ impl<'a> StringRead<'a> {
 impl<'a> AtomRead<'a> {
     // The slice still to be read after an atom.
     pub fn rest(self) -> &'a [u8]
-        ensures { λ r. ⌜ r ≡ self .entry .reader .«data» ⌝ }
+        ensures { λ afterAtom. ⌜ afterAtom ≡ self .entry .reader .«data» ⌝ }
     {
         self.reader.data
     }

@@ -18,7 +18,7 @@ use Rattle.slice_reader.proofs.len_of.Code as code
 
 -- the contract, from what is found
 clause : Follows first.ended (told size (λ s. length s)) (λ M 𝓤. first.clauses 𝓤)
-clause = record { follows = λ 𝓤 H A mem run κs a g r e. fact-mono 𝓤 _ _ (λ f. simp f) }
+clause = record { follows = λ 𝓤 H A mem run κs a g r e. fact-mono 𝓤 _ _ (λ f. simp f (search)) }
 
 pub len-of-spec : {M : Type 1} → statement.statement M
 unfolding code.routine tablesOf

@@ -12,7 +12,7 @@ use Rattle.slice_reader.proofs.FloatRead.rest.Code as code
 
 -- the contract, from what is found
 clause : Follows rest.ended (rested floats) (λ M 𝓤. rest.clauses 𝓤)
-clause = record { follows = λ 𝓤 H A mem run κs a g r e. fact-mono 𝓤 _ _ (λ f. simp f) }
+clause = record { follows = λ 𝓤 H A mem run κs a g r e. fact-mono 𝓤 _ _ (λ f. simp f (search)) }
 
 pub rest-spec : {M : Type 1} → statement.statement M
 unfolding code.routine tablesOf

@@ -91,7 +91,7 @@ from-meets 𝓤 H A W 𝓣 = walk-meets 𝓤 H A from′.ended stayed W (goes-no
 
 -- the contract, from what is found
 clause : Follows from′.ended made (λ M 𝓤. from′.clauses 𝓤)
-clause = record { follows = λ 𝓤 H A mem run κs a g r e. fact-mono 𝓤 _ _ (λ f. simp f) }
+clause = record { follows = λ 𝓤 H A mem run κs a g r e. fact-mono 𝓤 _ _ (λ f. simp f (search)) }
 
 pub from-spec : {M : Type 1} → statement.statement M
 unfolding code.routine tablesOf

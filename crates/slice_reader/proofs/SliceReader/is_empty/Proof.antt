@@ -20,7 +20,7 @@ use Rattle.slice_reader.proofs.SliceReader.is_empty.Code as code
 
 -- the contract, from what is found
 clause : Follows is-empty.ended (asked yes-or-no (λ s. eqb (length s) 0)) (λ M 𝓤. is-empty.clauses 𝓤)
-clause = record { follows = λ 𝓤 H A mem run κs a g r e. fact-mono 𝓤 _ _ (λ f. simp f) }
+clause = record { follows = λ 𝓤 H A mem run κs a g r e. fact-mono 𝓤 _ _ (λ f. simp f (search)) }
 
 pub is-empty-spec : {M : Type 1} → statement.statement M
 unfolding code.routine tablesOf

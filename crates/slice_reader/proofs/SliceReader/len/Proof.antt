@@ -19,7 +19,7 @@ use Rattle.slice_reader.proofs.SliceReader.len.Code as code
 
 -- the contract, from what is found
 clause : Follows len.ended (asked size (λ s. length s)) (λ M 𝓤. len.clauses 𝓤)
-clause = record { follows = λ 𝓤 H A mem run κs a g r e. fact-mono 𝓤 _ _ (λ f. simp f) }
+clause = record { follows = λ 𝓤 H A mem run κs a g r e. fact-mono 𝓤 _ _ (λ f. simp f (search)) }
 
 pub len-spec : {M : Type 1} → statement.statement M
 unfolding code.routine tablesOf

@@ -99,7 +99,7 @@ rest-meets 𝓤 H A W 𝓣 = walk-meets 𝓤 H A rest′.ended stayed W (goes-no
 
 -- the contract, from what is found
 clause : Follows rest′.ended handed (λ M 𝓤. rest′.clauses 𝓤)
-clause = record { follows = λ 𝓤 H A mem run κs a g r e. fact-mono 𝓤 _ _ (λ f. simp f) }
+clause = record { follows = λ 𝓤 H A mem run κs a g r e. fact-mono 𝓤 _ _ (λ f. simp f (search)) }
 
 pub rest-spec : {M : Type 1} → statement.statement M
 unfolding code.routine tablesOf
