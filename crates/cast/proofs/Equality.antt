@@ -155,7 +155,7 @@ equal-others s k n a b e o = by (sameSign (sign a) s) ∙ ap (λ (t : Bool). sam
 
 -- ---- an integer of another sign
 
--- the places of a sign
+-- the places of the variants of a sign
 abbrev places : Sign → List ℕ
 places signed = 0 ∷ 1 ∷ 2 ∷ 3 ∷ 4 ∷ []
 places unsigned = 5 ∷ 6 ∷ 7 ∷ 8 ∷ 9 ∷ []
@@ -173,7 +173,7 @@ its-sign signed unsigned w o = absurd (miss (places signed) (place unsigned w) (
 its-sign unsigned signed w o = absurd (miss (places unsigned) (place signed w) (apart-places w .1) o)
 its-sign unsigned unsigned w o = refl
 
--- a stands at one of its places
+-- a stands at one of the places of the sign t
 pub other-sign : (s t : Sign) (a b : Integer) → sameSign t s ≡ false → OneOf (places t) (Declared.tagOf Made.the-type a) → false ≡ equalOf s a b
 unfolding equalOf
 other-sign s t a b d o =

@@ -100,6 +100,6 @@ sameValue (negsuc m) (negsuc n) = eqb m n
 unfoldable pub equalIntegers : Integer → Integer → Bool
 equalIntegers a b = sameSign (sign a) (sign b) && eqb (bytes (width a)) (bytes (width b)) && sameValue (value a) (value b)
 
--- the same, of a sign
+-- equal, and of that sign
 unfoldable pub equalOf : Sign → Integer → Integer → Bool
 equalOf s a b = sameSign (sign a) s && equalIntegers a b
