@@ -1,4 +1,4 @@
--- Two integers are equal exactly if they stand at one place of the enum and their bits are the same.
+-- Two integers are equal exactly if they stand at one place of the enum and their bits are the same: of a sign, and of either.
 use mathlib.Core.Path.{_≡_, refl, _∙_, sym, ap, subst}
 use mathlib.Core.Bool.{Bool, true, false, not, _&&_}
 use mathlib.Core.List.{List, [], _∷_}
@@ -18,7 +18,7 @@ use Rattle.types.specs.declared.Integer.{Integer}
 use Rattle.types.specs.declared.Integer.the-variants as I
 use Rattle.types.specs.declared.Wide.{Wide}
 use Rattle.types.proofs.Integer as Made
-use Rattle.cast.specs.Variants.{sign, width, value, variant, inRange, joined, words, sameSign, sameValue, equalIntegers}
+use Rattle.cast.specs.Variants.{sign, width, value, variant, inRange, joined, words, sameSign, sameValue, equalIntegers, equalOf}
 use Rattle.cast.proofs.Words.{Held, joined-fits, words-joined, wide-back}
 use Rattle.cast.proofs.Ranges.{no, fits-signed, fits-unsigned, variant-sign, variant-width, variant-value}
 
@@ -53,16 +53,16 @@ same-self : (s : Sign) → sameSign s s ≡ true
 same-self signed = refl
 same-self unsigned = refl
 
-pub equal-variants : (s : Sign) (w : Width) (x y : ℤ) → inRange s w x ≡ true → inRange s w y ≡ true → {a b : Integer} → a ≡ variant s w x → b ≡ variant s w y → sameValue x y ≡ equalIntegers a b
-unfolding equalIntegers
+pub equal-variants : (s : Sign) (w : Width) (x y : ℤ) → inRange s w x ≡ true → inRange s w y ≡ true → {a b : Integer} → a ≡ variant s w x → b ≡ variant s w y → sameValue x y ≡ equalOf s a b
+unfolding equalOf equalIntegers
 equal-variants s w x y h k {a} {b} p q =
-    sym (ap (λ (n : Integer). equalIntegers n b) p ∙ ap (λ (n : Integer). equalIntegers (variant s w x) n) q
+    sym (ap (λ (n : Integer). equalOf s n b) p ∙ ap (λ (n : Integer). equalOf s (variant s w x) n) q
     ∙ simp (variant-sign s w x, variant-sign s w y, variant-width s w x, variant-width s w y, variant-value s w x h, variant-value s w y k, same-self s, is-true (eqb (bytes w) (bytes w)) (eqb-refl (bytes w))))
 
-pub signed-equal : (w : Width) (x y : ℤ) → SFits w x → SFits w y → {a b : Integer} → a ≡ variant signed w x → b ≡ variant signed w y → eqb (ofZ w x) (ofZ w y) ≡ equalIntegers a b
+pub signed-equal : (w : Width) (x y : ℤ) → SFits w x → SFits w y → {a b : Integer} → a ≡ variant signed w x → b ≡ variant signed w y → eqb (ofZ w x) (ofZ w y) ≡ equalOf signed a b
 signed-equal w x y f g p q = same-bits w x y f g ∙ equal-variants signed w x y (fits-signed w x f) (fits-signed w y g) p q
 
-pub unsigned-equal : (w : Width) (m n : ℕ) → Fits w m → Fits w n → {a b : Integer} → a ≡ variant unsigned w (pos m) → b ≡ variant unsigned w (pos n) → eqb m n ≡ equalIntegers a b
+pub unsigned-equal : (w : Width) (m n : ℕ) → Fits w m → Fits w n → {a b : Integer} → a ≡ variant unsigned w (pos m) → b ≡ variant unsigned w (pos n) → eqb m n ≡ equalOf unsigned a b
 unsigned-equal w m n f g p q = equal-variants unsigned w (pos m) (pos n) (fits-unsigned w m f) (fits-unsigned w n g) p q
 
 -- two words: both words are the same
@@ -78,14 +78,14 @@ module _ (p q : Wide) (h : Held p) (k : Held q) where
       by true false a b = sym (ne-eqb (joined p) (joined q) (λ e. eqb-false (p .lo) (q .lo) b (ap (λ (w : Wide). w .lo) (same e))))
       by false u a b = sym (ne-eqb (joined p) (joined q) (λ e. eqb-false (p .hi) (q .hi) a (ap (λ (w : Wide). w .hi) (same e))))
 
-  pub words-equal-signed : {a b : Integer} → a ≡ I.I128 p → b ≡ I.I128 q → (eqb (p .hi) (q .hi) && eqb (p .lo) (q .lo)) ≡ equalIntegers a b
+  pub words-equal-signed : {a b : Integer} → a ≡ I.I128 p → b ≡ I.I128 q → (eqb (p .hi) (q .hi) && eqb (p .lo) (q .lo)) ≡ equalOf signed a b
   words-equal-signed e f =
       same-joined
       ∙ sym (ap (λ (n : ℕ). eqb n (ofZ w128 (toZ w128 (joined q)))) (ofZ-toZ w128 (joined p) (joined-fits p h)) ∙ ap (eqb (joined p)) (ofZ-toZ w128 (joined q) (joined-fits q k)))
       ∙ signed-equal w128 (toZ w128 (joined p)) (toZ w128 (joined q)) (toZ-fits w128 (joined p) (joined-fits p h)) (toZ-fits w128 (joined q) (joined-fits q k))
       (e ∙ ap I.I128 (sym (wide-back p h))) (f ∙ ap I.I128 (sym (wide-back q k)))
 
-  pub words-equal-unsigned : {a b : Integer} → a ≡ I.U128 p → b ≡ I.U128 q → (eqb (p .hi) (q .hi) && eqb (p .lo) (q .lo)) ≡ equalIntegers a b
+  pub words-equal-unsigned : {a b : Integer} → a ≡ I.U128 p → b ≡ I.U128 q → (eqb (p .hi) (q .hi) && eqb (p .lo) (q .lo)) ≡ equalOf unsigned a b
   words-equal-unsigned e f =
       same-joined
       ∙ unsigned-equal w128 (joined p) (joined q) (joined-fits p h) (joined-fits q k) (e ∙ ap I.U128 (sym (words-joined p h))) (f ∙ ap I.U128 (sym (words-joined q k)))
@@ -145,5 +145,53 @@ different a b d = by (sameSign (sign a) (sign b)) (eqb (bytes (width a)) (bytes 
     by false u p q = refl
 
 -- a stands at the place k, and b at one of the others
-pub equal-others : (k : ℕ) → T (not (hasKey (others k) k)) → (a b : Integer) → Declared.tagOf Made.the-type a ≡ k → OneOf (others k) (Declared.tagOf Made.the-type b) → false ≡ equalIntegers a b
-equal-others k n a b e o = different a b (λ q. miss (others k) k n (subst (OneOf (others k)) (sym q ∙ e) o))
+pub equal-others : (s : Sign) (k : ℕ) → T (not (hasKey (others k) k)) → (a b : Integer) → Declared.tagOf Made.the-type a ≡ k → OneOf (others k) (Declared.tagOf Made.the-type b) → false ≡ equalOf s a b
+unfolding equalOf
+equal-others s k n a b e o = by (sameSign (sign a) s) ∙ ap (λ (t : Bool). sameSign (sign a) s && t) (different a b (λ q. miss (others k) k n (subst (OneOf (others k)) (sym q ∙ e) o)))
+  where
+    by : (t : Bool) → false ≡ (t && false)
+    by true = refl
+    by false = refl
+
+-- ---- an integer of another sign
+
+-- the places of the variants of a sign
+abbrev places : Sign → List ℕ
+places signed = 0 ∷ 1 ∷ 2 ∷ 3 ∷ 4 ∷ []
+places unsigned = 5 ∷ 6 ∷ 7 ∷ 8 ∷ 9 ∷ []
+
+apart-places : (w : Width) → T (not (hasKey (places signed) (place unsigned w))) × T (not (hasKey (places unsigned) (place signed w)))
+apart-places w8 = (tt, tt)
+apart-places w16 = (tt, tt)
+apart-places w32 = (tt, tt)
+apart-places w64 = (tt, tt)
+apart-places w128 = (tt, tt)
+
+its-sign : (t u : Sign) (w : Width) → OneOf (places t) (place u w) → u ≡ t
+its-sign signed signed w o = refl
+its-sign signed unsigned w o = absurd (miss (places signed) (place unsigned w) (apart-places w .0) o)
+its-sign unsigned signed w o = absurd (miss (places unsigned) (place signed w) (apart-places w .1) o)
+its-sign unsigned unsigned w o = refl
+
+-- a stands at one of the places of the sign t
+pub other-sign : (s t : Sign) (a b : Integer) → sameSign t s ≡ false → OneOf (places t) (Declared.tagOf Made.the-type a) → false ≡ equalOf s a b
+unfolding equalOf
+other-sign s t a b d o =
+    sym (ap (λ (v : Bool). v && equalIntegers a b) (ap (λ (u : Sign). sameSign u s) (its-sign t (sign a) (width a) (subst (OneOf (places t)) (placed a) o)) ∙ d))
+
+-- ---- equal of one sign or of the other
+pub if-signed : (a b : Integer) → equalOf signed a b ≡ true → true ≡ equalIntegers a b
+unfolding equalOf
+if-signed a b h = by (sameSign (sign a) signed) (equalIntegers a b) h
+  where
+    by : (t e : Bool) → (t && e) ≡ true → true ≡ e
+    by true e h = sym h
+    by false e h = absurd (no h)
+
+pub else-unsigned : (a b : Integer) → equalOf signed a b ≡ false → equalOf unsigned a b ≡ equalIntegers a b
+unfolding equalOf
+else-unsigned a b h = by (sign a) (equalIntegers a b) h
+  where
+    by : (s : Sign) (e : Bool) → (sameSign s signed && e) ≡ false → (sameSign s unsigned && e) ≡ e
+    by signed e h = sym h
+    by unsigned e h = refl

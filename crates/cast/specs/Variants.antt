@@ -99,3 +99,7 @@ sameValue (negsuc m) (negsuc n) = eqb m n
 -- "Integers are equal only if variant and value are."
 unfoldable pub equalIntegers : Integer → Integer → Bool
 equalIntegers a b = sameSign (sign a) (sign b) && eqb (bytes (width a)) (bytes (width b)) && sameValue (value a) (value b)
+
+-- equal, and of that sign
+unfoldable pub equalOf : Sign → Integer → Integer → Bool
+equalOf s a b = sameSign (sign a) s && equalIntegers a b

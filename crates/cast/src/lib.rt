@@ -6,7 +6,7 @@ ghost use lib.Dec.{eqb};
 ghost use lib.IntN.{pos};
 ghost use mir.Syntax.{signed, unsigned, w8, w16, w32, w64, w128};
 ghost use mir.Val.{toZ};
-ghost use Rattle.cast.specs.Variants.{isZero, equalIntegers, joined, wideOf};
+ghost use Rattle.cast.specs.Variants.{isZero, equalOf, equalIntegers, joined, wideOf};
 ghost use Rattle.cast.specs.Froms.{from};
 ghost use Rattle.cast.specs.Casts.{asI8, asI16, asI32, asI64, asI128, asU8, asU16, asU32, asU64, asU128};
 ghost use Rattle.cast.specs.Casts.{keptWords, asF32, asF64, asFloat};
@@ -65,9 +65,9 @@ fn same_words(a: Wide, b: Wide) -> bool
     false
 }
 
-// Whether variant and value are the same.
-pub fn equal(a: Integer, b: Integer) -> bool
-    ensures { λ r. ⌜ r ≡ equalIntegers a b ⌝ }
+// Whether variant and value are the same, and signed.
+fn equal_signed(a: Integer, b: Integer) -> bool
+    ensures { λ r. ⌜ r ≡ equalOf signed a b ⌝ }
 {
     match a {
         Integer::I8(x) => match b {
@@ -90,6 +90,15 @@ pub fn equal(a: Integer, b: Integer) -> bool
             Integer::I128(y) => return same_words(x, y),
             _ => return false,
         },
+        _ => return false,
+    }
+}
+
+// Whether variant and value are the same, and unsigned.
+fn equal_unsigned(a: Integer, b: Integer) -> bool
+    ensures { λ r. ⌜ r ≡ equalOf unsigned a b ⌝ }
+{
+    match a {
         Integer::U8(x) => match b {
             Integer::U8(y) => return x == y,
             _ => return false,
@@ -110,7 +119,18 @@ pub fn equal(a: Integer, b: Integer) -> bool
             Integer::U128(y) => return same_words(x, y),
             _ => return false,
         },
+        _ => return false,
     }
+}
+
+// Whether variant and value are the same.
+pub fn equal(a: Integer, b: Integer) -> bool
+    ensures { λ r. ⌜ r ≡ equalIntegers a b ⌝ }
+{
+    if equal_signed(a, b) {
+        return true;
+    }
+    equal_unsigned(a, b)
 }
 
 // The two words of a signed number.

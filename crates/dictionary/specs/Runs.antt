@@ -51,14 +51,15 @@ abbrev pub afterStep : {X : Type 0} → Skipped → (Place → Budget → Place 
 afterStep (SK.Past place rest body string) on stop = on place rest body string
 afterStep (SK.Refused place rest r) on stop = stop r
 
+-- what a tally counts: atoms, body bytes, charge, letters
+abbrev pub tallied : ℕ → ℕ → ℕ → ℕ → Tallied
+tallied atoms body charge letters = record { atoms = atoms; body = record { 0 = body }; charge = charge; letters = letters }
+
 -- an atom more: its body bytes, what it took of the budget, and the letters of its string
 abbrev pub added : List ℕ → Tallied → ℕ → ℕ → ℕ → Bool → Tallied
-added s t place rest body string = record {
-  atoms = t .atoms + 1;
-  body = record { 0 = t .body .0 + (place - body) };
-  charge = t .charge + (unlimited - rest);
-  letters = t .letters + pick string (letters (take (place - body) (drop body s))) 0;
-}
+added s t place rest body string =
+    tallied (t .atoms + 1) (t .body .0 + (place - body)) (t .charge + (unlimited - rest))
+    (t .letters + pick string (letters (take (place - body) (drop body s))) 0)
 
 -- "fails at the first bad atom with 3, 4 or 6 and the place where that atom starts": on from a place; at most `fuel` atoms
 unfoldable pub tallyFrom : ℕ → List ℕ → ℕ → Tallied → TallyAnswer
@@ -72,7 +73,7 @@ tallyFrom (suc fuel) s at t =
 
 -- nothing counted yet
 abbrev pub nothing : Tallied
-nothing = record { atoms = 0; body = record { 0 = 0 }; charge = 0; letters = 0 }
+nothing = tallied 0 0 0 0
 
 -- "10 TooLong: tally input over 16,777,216 bytes"
 abbrev pub mostBytes : ℕ

@@ -6,10 +6,11 @@ ghost use Prim.Native.Nat.{_≤_, _<_, _+_, _-_};
 ghost use lib.ListN.{length, take, drop};
 ghost use Rattle.types.specs.Choice.{pick};
 ghost use Rattle.types.specs.declared.Refusal.the-variants as R;
+ghost use Rattle.types.specs.declared.TallyAnswer.the-variants as TA;
 ghost use Rattle.atom.specs.Charges.{numberCharge};
 ghost use Rattle.dictionary.specs.Letters.{letter, letters};
 ghost use Rattle.dictionary.specs.Steps.{skipped, bodyPast, bodyAfter, ShortPast};
-ghost use Rattle.dictionary.specs.Runs.{runAll, tallyAll};
+ghost use Rattle.dictionary.specs.Runs.{runAll, tallied, tallyAll};
 use types::BodyBytes;
 use types::Budget;
 use types::HeaderAnswer;
@@ -230,6 +231,19 @@ fn letters_of(source: &[u8], from: usize, to: usize, string: bool) -> u64
     0
 }
 
+// The answer of a tally that met the file's end.
+fn counted(atoms: u64, body: u64, charge: u64, letters: u64) -> TallyAnswer
+    ensures { λ r. ⌜ r ≡ TA.Done (tallied atoms body charge letters) ⌝ }
+{
+    let body = BodyBytes(body);
+    TallyAnswer::Done(Tallied {
+        atoms,
+        body,
+        charge,
+        letters,
+    })
+}
+
 // Counts a file's atoms, body bytes, charges and letters, or refuses at the first bad atom. Each atom is read with the
 // largest budget, which no charge exceeds.
 pub fn tally(source: &[u8]) -> TallyAnswer
@@ -257,25 +271,17 @@ pub fn tally(source: &[u8]) -> TallyAnswer
             continue;
         }
         match skip_atom(source, Place(at), Budget(0xFFFF_FFFF_FFFF_FFFF)) {
-            Skipped::Past(place, rest, start, string) => {
-                let end = place.0;
-                let from = start.0;
+            Skipped::Past(end, rest, from, string) => {
                 atoms += 1;
-                body += (end - from) as u64;
+                body += (end.0 - from.0) as u64;
                 charge += 0xFFFF_FFFF_FFFF_FFFF - rest.0;
-                letters += letters_of(source, from, end, string);
-                at = end;
+                letters += letters_of(source, from.0, end.0, string);
+                at = end.0;
             }
             Skipped::Refused(_, _, refusal) => {
                 return TallyAnswer::Stopped(Place(at), refusal);
             }
         }
     }
-    let body = BodyBytes(body);
-    return TallyAnswer::Done(Tallied {
-        atoms,
-        body,
-        charge,
-        letters,
-    });
+    return counted(atoms, body, charge, letters);
 }
