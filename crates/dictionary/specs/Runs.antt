@@ -51,7 +51,8 @@ abbrev pub afterStep : {X : Type 0} → Skipped → (Place → Budget → Place 
 afterStep (SK.Past place rest body string) on stop = on place rest body string
 afterStep (SK.Refused place rest r) on stop = stop r
 
--- an atom more: its body bytes, what it took of the budget, and the letters of its string
+-- an atom more: its body bytes, what it took of the budget, and the letters of its string; that the second sums to document
+-- 01's charges, over a definition that knows no reader, is `Price.tally-priced`
 abbrev pub added : List ℕ → Tallied → ℕ → ℕ → ℕ → Bool → Tallied
 added s t place rest body string = record {
   atoms = t .atoms + 1;
