@@ -7,6 +7,7 @@ use Prim.Native.Nat.{ℕ, zero, suc, _+_, _-_, _≤_}
 use native.Mathlib.Omega.{arith}
 use lib.Dec.{ltb, leb}
 use lib.ListN.{length, drop}
+use borrow.Author.Tests.{leb-true, leb-false}
 use Rattle.types.specs.Choice.{pick}
 use Rattle.types.specs.Counters.{placeIn}
 use Rattle.types.specs.Kinds.{specialFrom}
@@ -28,8 +29,11 @@ use Rattle.types.specs.declared.AtomAnswer.the-variants as A
 use Rattle.types.proofs.Places.{place-within}
 use Rattle.types.proofs.Specials.{special-unknown}
 use Rattle.header.specs.Header.{headerFrom, headerKind, headerLength, headerArgument, laterCount, laterValue}
-use Rattle.integer.specs.Integers.{integerKind, allowedCount, integerFrom, integerBody}
-use Rattle.float.specs.Floats.{allowedFloat, floatFrom, floatBody}
+use Rattle.little.specs.Le.{numberAt}
+use Rattle.integer.specs.Integers.{integerKind, allowedCount, integerFrom}
+use Rattle.integer.proofs.Answers as integers
+use Rattle.float.specs.Floats.{allowedFloat, floatOf, floatFrom}
+use Rattle.float.proofs.Answers as floats
 use Rattle.atom.specs.Charges.{countOf, numberCharge}
 use Rattle.atom.specs.Atoms.{atomOf, atomRead, atomFrom, atomAfter, specialAtom, charged, integerAtom, integerAfter, floatAtom, floatAfter}
 
@@ -42,18 +46,22 @@ none-for-ever place budget scratch =
     ap (λ (at : ℕ). atomFrom W.Filled [] budget scratch (headerFrom W.Filled [] at)) start
 
 -- a number does not run out
-pub integer-whole : (s : List ℕ) (at : ℕ) (kind : Kind) (count : ℕ) (p : Place) (k a w : Bool) → integerKind kind ≡ k → allowedCount count ≡ a → leb (at + count) (length s) ≡ w → integerFrom W.Filled s at kind count ≡ IA.Refused p R.Eof → ⊥
-unfolding integerFrom integerBody
-integer-whole s at kind count p false a w e f g h = let x : IA.Refused (record { 0 = at }) (R.UnexpectedKind kind K.Int) ≡ IA.Refused p R.Eof = rw e at h in false≢true cc
-integer-whole s at kind count p true false w e f g h = let x : IA.Refused (record { 0 = at }) (R.UnsupportedByteCount kind count) ≡ IA.Refused p R.Eof = rw (e, f) at h in false≢true cc
-integer-whole s at kind count p true true true e f g h = let x = rw (e, f, g) at h in false≢true cc
-integer-whole s at kind count p true true false e f g h = let x = rw (e, f, g) at h in false≢true cc
+integer-by : (s : List ℕ) (at : ℕ) (kind : Kind) (count : ℕ) (p : Place) (k a w : Bool) → integerKind kind ≡ k → allowedCount count ≡ a → leb (at + count) (length s) ≡ w → integerFrom W.Filled s at kind count ≡ IA.Refused p R.Eof → ⊥
+integer-by s at kind count p false a w e f g h = let x = sym (integers.from-other-kind W.Filled s at kind count e) ∙ h in false≢true cc
+integer-by s at kind count p true false w e f g h = let x = sym (integers.from-other-count W.Filled s at kind count e f) ∙ h in false≢true cc
+integer-by s at kind count p true true true e f g h = let x = sym (integers.from-body W.Filled s at kind count e f ∙ integers.body-whole W.Filled s at kind count (leb-true (at + count) (length s) g)) ∙ h in false≢true cc
+integer-by s at kind count p true true false e f g h = let x = sym (integers.from-body W.Filled s at kind count e f ∙ integers.body-filled W.Filled s at kind count (leb-false (at + count) (length s) g) refl) ∙ h in false≢true cc
 
-pub float-whole : (s : List ℕ) (at count : ℕ) (p : Place) (a w : Bool) → allowedFloat count ≡ a → leb (at + count) (length s) ≡ w → floatFrom W.Filled s at K.Float count ≡ FA.Refused p R.Eof → ⊥
-unfolding floatFrom floatBody
-float-whole s at count p false w f g h = let x : FA.Refused (record { 0 = at }) (R.UnsupportedByteCount K.Float count) ≡ FA.Refused p R.Eof = rw f at h in false≢true cc
-float-whole s at count p true true f g h = let x = rw (f, g) at h in false≢true cc
-float-whole s at count p true false f g h = let x = rw (f, g) at h in false≢true cc
+pub integer-whole : (s : List ℕ) (at : ℕ) (kind : Kind) (count : ℕ) (p : Place) → integerFrom W.Filled s at kind count ≡ IA.Refused p R.Eof → ⊥
+integer-whole s at kind count p = integer-by s at kind count p (integerKind kind) (allowedCount count) (leb (at + count) (length s)) refl refl refl
+
+float-by : (s : List ℕ) (at count : ℕ) (p : Place) (a w : Bool) → allowedFloat count ≡ a → leb (at + count) (length s) ≡ w → floatFrom W.Filled s at K.Float count ≡ FA.Refused p R.Eof → ⊥
+float-by s at count p false w f g h = let x = floats.from-count W.Filled s at count K.Float refl f ∙ h in false≢true cc
+float-by s at count p true true f g h = let x = floats.body-whole W.Filled s at count (numberAt count s at) (floatOf count (numberAt count s at)) refl refl (leb-true (at + count) (length s) g) ∙ floats.from-body W.Filled s at count K.Float refl f ∙ h in false≢true cc
+float-by s at count p true false f g h = let x = floats.body-filled W.Filled s at count (numberAt count s at) (floatOf count (numberAt count s at)) refl refl (leb-false (at + count) (length s) g) refl ∙ floats.from-body W.Filled s at count K.Float refl f ∙ h in false≢true cc
+
+pub float-whole : (s : List ℕ) (at count : ℕ) (p : Place) → floatFrom W.Filled s at K.Float count ≡ FA.Refused p R.Eof → ⊥
+float-whole s at count p = float-by s at count p (allowedFloat count) (leb (at + count) (length s)) refl refl
 
 -- nor does a special, whose refusal is another
 special-whole : (n : ℕ) (next : Place) (budget : Budget) (p : Place) (b : Budget) → specialAtom n next budget (specialFrom n) ≡ A.Refused p b R.Eof → ⊥
@@ -83,23 +91,23 @@ float-end arg rest (FA.Read q v bits) p b h = absurd (false≢true cc)
 float-end arg rest (FA.Refused q r) p b h = cc
 
 module _ (s : List ℕ) (arg : ℕ) (next : Place) (budget : Budget) (scratch : List ℕ) (p : Place) (b : Budget) where
-  integers : (kind : Kind) → integerAfter W.Filled s kind arg next budget ≡ A.Refused p b R.Eof → ⊥
+  no-integer : (kind : Kind) → integerAfter W.Filled s kind arg next budget ≡ A.Refused p b R.Eof → ⊥
   unfolding integerAfter
-  integers kind h =
+  no-integer kind h =
       let x = charged-end next budget (numberCharge (countOf arg)) (λ rest. integerAtom kind arg rest (integerFrom W.Filled s (next .0) kind (countOf arg))) p b (ltb (budget .0) (numberCharge (countOf arg))) h in
-      integer-whole s (next .0) kind (countOf arg) p (integerKind kind) (allowedCount (countOf arg)) (leb (next .0 + countOf arg) (length s)) refl refl refl (integer-end kind arg (x .0) (integerFrom W.Filled s (next .0) kind (countOf arg)) p b (x .1))
+      integer-whole s (next .0) kind (countOf arg) p (integer-end kind arg (x .0) (integerFrom W.Filled s (next .0) kind (countOf arg)) p b (x .1))
 
-  floats : floatAfter W.Filled s arg next budget ≡ A.Refused p b R.Eof → ⊥
+  no-float : floatAfter W.Filled s arg next budget ≡ A.Refused p b R.Eof → ⊥
   unfolding floatAfter
-  floats h =
+  no-float h =
       let x = charged-end next budget (numberCharge (countOf arg)) (λ rest. floatAtom arg rest (floatFrom W.Filled s (next .0) K.Float (countOf arg))) p b (ltb (budget .0) (numberCharge (countOf arg))) h in
-      float-whole s (next .0) (countOf arg) p (allowedFloat (countOf arg)) (leb (next .0 + countOf arg) (length s)) refl refl (float-end arg (x .0) (floatFrom W.Filled s (next .0) K.Float (countOf arg)) p b (x .1))
+      float-whole s (next .0) (countOf arg) p (float-end arg (x .0) (floatFrom W.Filled s (next .0) K.Float (countOf arg)) p b (x .1))
 
   after : (kind : Kind) → atomAfter W.Filled s kind arg next budget scratch ≡ A.Refused p b R.Eof → kind ≡ K.Bytes
   after K.Special h = absurd (special-whole arg next budget p b h)
-  after K.Int h = absurd (integers K.Int h)
-  after K.UInt h = absurd (integers K.UInt h)
-  after K.Float h = absurd (floats h)
+  after K.Int h = absurd (no-integer K.Int h)
+  after K.UInt h = absurd (no-integer K.UInt h)
+  after K.Float h = absurd (no-float h)
   after K.Sequence h = absurd (false≢true cc)
   after K.Map h = absurd (false≢true cc)
   after K.Symbol h = absurd (false≢true cc)
