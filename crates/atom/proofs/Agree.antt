@@ -1,12 +1,11 @@
 -- Where exact reading takes an atom, it takes a byte at least, and filled reading gives the same atom, place and budget.
 use mathlib.Core.Path.{_≡_, refl, _∙_, sym, ap}
-use mathlib.Core.Bool.{Bool, true, false}
+use mathlib.Core.Bool.{Bool, true, false, false≢true}
 use mathlib.Core.List.{List}
-use Prim.Native.Nat.{ℕ, _+_, _-_, _≤_, _<_}
+use Prim.Native.Nat.{ℕ, _+_, _≤_, _<_}
 use native.Mathlib.Omega.{arith}
-use lib.Dec.{leb, ltb}
+use lib.Dec.{leb}
 use lib.ListN.{length, drop}
-use borrow.Author.Tests.{leb-true}
 use Rattle.types.specs.Choice.{pick}
 use Rattle.types.specs.Ways.{exact}
 use Rattle.types.specs.declared.Way.{Way}
@@ -61,20 +60,20 @@ FloatRefuses arg rest a = (p : Place) (b : Budget) (x : Atom) → floatAtom arg 
 -- the header
 header-ways : (s : List ℕ) (at : ℕ) → Same (headerFrom W.ExactLent s at) (headerFrom W.Filled s at) HeaderRefuses
 unfolding headerFrom
-header-ways s at = two-ways HeaderRefuses (H.Read (record { 0 = at + headerLength (drop at s) }) (headerKind (drop at s)) (headerArgument (drop at s))) (H.Refused (record { 0 = length s }) R.Eof) (H.Read (record { 0 = length s }) (headerKind (drop at s)) (headerArgument (drop at s))) (λ p k n e. let z : _≡_ {A = ℕ} 0 1 = cc in omega arith) (leb (at + headerLength (drop at s)) (length s))
+header-ways s at = two-ways HeaderRefuses (H.Read (record { 0 = at + headerLength (drop at s) }) (headerKind (drop at s)) (headerArgument (drop at s))) (H.Refused (record { 0 = length s }) R.Eof) (H.Read (record { 0 = length s }) (headerKind (drop at s)) (headerArgument (drop at s))) (λ p k n e. false≢true cc) (leb (at + headerLength (drop at s)) (length s))
 
 -- the bodies of numbers
 integer-ways : (s : List ℕ) (at : ℕ) (kind : Kind) (count arg : ℕ) (rest : Budget) (k a : Bool) → integerKind kind ≡ k → allowedCount count ≡ a → Same (integerFrom W.ExactLent s at kind count) (integerFrom W.Filled s at kind count) (IntegerRefuses kind arg rest)
 unfolding integerFrom integerBody
 integer-ways s at kind count arg rest true true e f =
-    rw (e, f) (two-ways (IntegerRefuses kind arg rest) (IA.Read (record { 0 = at + count }) (integerOf kind count (numberAt count s at))) (IA.Refused (record { 0 = length s }) R.Eof) (IA.Read (record { 0 = length s }) (integerOf kind count (numberAt count s at))) (λ p b x e. let z : _≡_ {A = ℕ} 0 1 = cc in omega arith) (leb (at + count) (length s)))
+    rw (e, f) (two-ways (IntegerRefuses kind arg rest) (IA.Read (record { 0 = at + count }) (integerOf kind count (numberAt count s at))) (IA.Refused (record { 0 = length s }) R.Eof) (IA.Read (record { 0 = length s }) (integerOf kind count (numberAt count s at))) (λ p b x e. false≢true cc) (leb (at + count) (length s)))
 integer-ways s at kind count arg rest true false e f = rw (e, f) (same refl)
 integer-ways s at kind count arg rest false a e f = rw e (same refl)
 
 float-ways : (s : List ℕ) (at : ℕ) (count arg : ℕ) (rest : Budget) (a : Bool) → allowedFloat count ≡ a → Same (floatFrom W.ExactLent s at K.Float count) (floatFrom W.Filled s at K.Float count) (FloatRefuses arg rest)
 unfolding floatFrom floatBody
 float-ways s at count arg rest true f =
-    rw f (two-ways (FloatRefuses arg rest) (FA.Read (record { 0 = at + count }) (floatOf count (numberAt count s at)) (numberAt count s at)) (FA.Refused (record { 0 = length s }) R.Eof) (FA.Read (record { 0 = length s }) (floatOf count (numberAt count s at)) (numberAt count s at)) (λ p b x e. let z : _≡_ {A = ℕ} 0 1 = cc in omega arith) (leb (at + count) (length s)))
+    rw f (two-ways (FloatRefuses arg rest) (FA.Read (record { 0 = at + count }) (floatOf count (numberAt count s at)) (numberAt count s at)) (FA.Refused (record { 0 = length s }) R.Eof) (FA.Read (record { 0 = length s }) (floatOf count (numberAt count s at)) (numberAt count s at)) (λ p b x e. false≢true cc) (leb (at + count) (length s)))
 float-ways s at count arg rest false f = rw f (same refl)
 
 -- what follows a charge
@@ -114,10 +113,7 @@ after-filled s K.Bytes arg next budget scratch p b x e = e
 from-filled : (s : List ℕ) (budget : Budget) (scratch : List ℕ) (h f : HeaderAnswer) (p : Place) (b : Budget) (x : Atom) → Same h f HeaderRefuses → atomFrom W.ExactLent s budget scratch h ≡ A.Read p b x → atomFrom W.Filled s budget scratch f ≡ A.Read p b x
 from-filled s budget scratch (H.Read next kind arg) f p b x (same e) k = ap (atomFrom W.Filled s budget scratch) (sym e) ∙ after-filled s kind arg next budget scratch p b x k
 from-filled s budget scratch (H.Read next kind arg) f p b x (refuses r) k = absurd (r next kind arg refl)
-from-filled s budget scratch (H.Refused q r) f p b x w k = let z : _≡_ {A = ℕ} 0 1 = cc in absurd (never z)
-  where
-    never : _≡_ {A = ℕ} 0 1 → ⊥
-    never z = omega arith
+from-filled s budget scratch (H.Refused q r) f p b x w k = absurd (false≢true cc)
 
 -- WHERE EXACT READING SUCCEEDS, FILLED READING GIVES THE SAME atom, place and budget, strings lent
 pub exact-then-filled : (s : List ℕ) (place : ℕ) (budget : Budget) (scratch : List ℕ) (p : Place) (b : Budget) (x : Atom) → atomRead W.ExactLent s place budget scratch ≡ A.Read p b x → atomRead W.Filled s place budget scratch ≡ A.Read p b x
@@ -130,7 +126,7 @@ header-more s at n k a true e h way x p kind arg f = let q : at + n ≡ p .0 = a
 header-more s at n k a false e h way x p kind arg f = absurd (never (ap (λ (t : Bool). pick t (H.Refused (record { 0 = length s }) R.Eof) (H.Read (record { 0 = length s }) k a)) (sym x) ∙ f))
   where
     never : H.Refused (record { 0 = length s }) R.Eof ≡ H.Read p kind arg → ⊥
-    never g = let z : _≡_ {A = ℕ} 0 1 = cc in omega arith
+    never g = false≢true cc
 
 from-more : (way : Way) (s : List ℕ) (at : ℕ) (budget : Budget) (scratch : List ℕ) (h : HeaderAnswer) (p : Place) (b : Budget) (x : Atom) → ((q : Place) (k : Kind) (n : ℕ) → h ≡ H.Read q k n → at < q .0) → headerPlace h ≤ length s → atomFrom way s budget scratch h ≡ A.Read p b x → at < p .0
 from-more way s at budget scratch (H.Read next kind arg) p b x f l e =
@@ -142,7 +138,7 @@ from-more way s at budget scratch (H.Read next kind arg) p b x f l e =
 from-more way s at budget scratch (H.Refused q r) p b x f l e = absurd (never e)
   where
     never : A.Refused q budget r ≡ A.Read p b x → ⊥
-    never g = let z : _≡_ {A = ℕ} 0 1 = cc in omega arith
+    never g = false≢true cc
 
 -- AN EXACT READ TAKES AT LEAST ONE BYTE
 pub exact-more : (way : Way) → exact way ≡ true → (s : List ℕ) (place : ℕ) (budget : Budget) (scratch : List ℕ) (p : Place) (b : Budget) (x : Atom) → atomRead way s place budget scratch ≡ A.Read p b x → startOf s place < p .0

@@ -1,40 +1,30 @@
 -- What was written reads back: the header decides, and what follows it is the body's own round trip.
-use mathlib.Core.Path.{_≡_, refl, _∙_, sym, ap}
-use mathlib.Core.Bool.{Bool, true, false}
-use mathlib.Core.List.{List, [], _∷_, _++_, append-assoc}
+use mathlib.Core.Path.{_≡_, _∙_, sym, ap}
+use mathlib.Core.List.{List, [], _++_, append-assoc}
 use Prim.Native.Nat.{ℕ, _+_, _-_, _≤_, _<_, _^_}
 use native.Mathlib.Omega.{arith}
 use lib.ListN.{length, length-append}
-use borrow.Author.Tests.{le-ltb, lt-ltb}
-use Rattle.types.specs.Choice.{pick}
+use borrow.Author.Tests.{le-ltb}
 use Rattle.types.specs.Counters.{placeIn}
-use Rattle.types.specs.Kinds.{specialCode, specialFrom}
+use Rattle.types.specs.Kinds.{specialCode}
+use Rattle.types.proofs.Places.{place-same}
+use Rattle.types.proofs.Specials.{special-known, special-small}
 use Rattle.types.specs.declared.Way.{Way}
 use Rattle.types.specs.declared.Kind.{Kind}
 use Rattle.types.specs.declared.Kind.the-variants as K
 use Rattle.types.specs.declared.Special.{Special}
-use Rattle.types.specs.declared.Special.the-variants as S
 use Rattle.types.specs.declared.Place.{Place}
 use Rattle.types.specs.declared.Budget.{Budget}
 use Rattle.types.specs.declared.Nucleus.the-variants as N
-use Rattle.types.specs.declared.SpecialAnswer.the-variants as SA
-use Rattle.types.specs.declared.HeaderAnswer.{HeaderAnswer}
-use Rattle.types.specs.declared.HeaderAnswer.the-variants as H
-use Rattle.types.specs.declared.BytesAnswer.{BytesAnswer}
 use Rattle.types.specs.declared.BudgetAnswer.the-variants as BA
-use Rattle.types.specs.declared.AtomAnswer.{AtomAnswer}
 use Rattle.types.specs.declared.AtomAnswer.the-variants as A
-use Rattle.header.specs.Header.{headerBytes, headerFrom, headerRead}
+use Rattle.header.specs.Header.{headerBytes, headerFrom}
 use Rattle.header.proofs.RoundTrip.{header-back}
 use Rattle.reader.specs.Strings.{stringAnswer, stringMark, scratchNeeded}
 use Rattle.reader.proofs.Delivered.{string-back}
 use Rattle.atom.specs.Charges.{budgetAfter}
-use Rattle.atom.specs.Atoms.{atomRead, atomFrom, atomAfter, atomOf, specialAtom, specialNucleus, bytesAtom, bytesAfter}
+use Rattle.atom.specs.Atoms.{atomRead, atomFrom, atomAfter, atomOf, specialAtom, specialNucleus, bytesAtom}
 use Rattle.atom.proofs.Answers.{bytes-left}
-
--- a place within the source is itself
-within : (n at : ℕ) → at ≤ n → placeIn n at ≡ at
-within n at h = simp (le-ltb n at h)
 
 -- a charge within the budget leaves the budget less the charge
 pub paid : (b : Budget) (c : ℕ) → c ≤ b .0 → budgetAfter b c ≡ BA.Left (record { 0 = b .0 - c })
@@ -46,32 +36,14 @@ unfolding atomRead
 atom-back way kind arg before rest budget scratch l =
     let s : List ℕ = before ++ (headerBytes kind arg ++ rest) in
     let whole : length s ≡ length before + (length (headerBytes kind arg) + length rest) = simp length-append in
-    let w : placeIn (length s) (length before) ≡ length before = within (length s) (length before) (omega arith) in
+    let w : placeIn (length s) (length before) ≡ length before = place-same (length s) (length before) (omega arith) in
     ap (λ (p : ℕ). atomFrom way s budget scratch (headerFrom way s p)) w
     ∙ ap (atomFrom way s budget scratch) (header-back way kind arg before rest l)
 
 -- each special reads back as itself, for nothing
-special-known : (special : Special) → specialFrom (specialCode special) ≡ SA.Known special
-special-known S.None = refl
-special-known S.Unit = refl
-special-known S.False = refl
-special-known S.True = refl
-special-known S.Named = refl
-special-known S.DynamicMap = refl
-special-known S.DynamicEnd = refl
-
-small : (special : Special) → specialCode special < 2 ^ 64
-small S.None = omega arith
-small S.Unit = omega arith
-small S.False = omega arith
-small S.True = omega arith
-small S.Named = omega arith
-small S.DynamicMap = omega arith
-small S.DynamicEnd = omega arith
-
 pub special-back : (way : Way) (special : Special) (before after : List ℕ) (budget : Budget) (scratch : List ℕ) → atomRead way (before ++ (headerBytes K.Special (specialCode special) ++ after)) (length before) budget scratch ≡ A.Read (record { 0 = length before + length (headerBytes K.Special (specialCode special)) }) budget (atomOf K.Special (specialCode special) (specialNucleus special))
 special-back way special before after budget scratch =
-    atom-back way K.Special (specialCode special) before after budget scratch (small special)
+    atom-back way K.Special (specialCode special) before after budget scratch (let l = special-small special in omega arith)
     ∙ ap (specialAtom (specialCode special) (record { 0 = length before + length (headerBytes K.Special (specialCode special)) }) budget) (special-known special)
 
 -- a string reads back under every way, from a budget of at least its length, lent or copied

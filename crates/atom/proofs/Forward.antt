@@ -1,17 +1,15 @@
 -- Where reading an atom leaves the place and the budget, under every way, refused or not: the place never falls and never
 -- passes the end, and the budget never rises.
-use mathlib.Core.Path.{_≡_, refl, _∙_, sym, ap, subst}
+use mathlib.Core.Path.{_≡_, refl, subst}
 use mathlib.Core.Bool.{Bool, true, false}
 use mathlib.Core.List.{List}
-use Prim.Native.Nat.{ℕ, _+_, _-_, _≤_, _<_}
+use Prim.Native.Nat.{ℕ, _+_, _-_, _≤_}
 use native.Mathlib.Omega.{arith}
 use native.Mathlib.Nat.{le-trans, le-refl}
-use lib.Dec.{leb, ltb}
+use lib.Dec.{ltb}
 use lib.ListN.{length}
-use borrow.Author.Tests.{leb-true, leb-false, ltb-true, ltb-false}
 use Rattle.types.specs.Choice.{pick}
-use Rattle.types.specs.Counters.{placeIn}
-use Rattle.types.specs.Ways.{exact, upTo}
+use Rattle.types.proofs.Ways.{up-to-between}
 use Rattle.types.specs.Kinds.{specialFrom}
 use Rattle.types.specs.declared.Way.{Way}
 use Rattle.types.specs.declared.Kind.{Kind}
@@ -29,19 +27,19 @@ use Rattle.types.specs.declared.FloatAnswer.{FloatAnswer}
 use Rattle.types.specs.declared.FloatAnswer.the-variants as FA
 use Rattle.types.specs.declared.BytesAnswer.{BytesAnswer}
 use Rattle.types.specs.declared.BytesAnswer.the-variants as B
-use Rattle.types.specs.declared.BudgetAnswer.{BudgetAnswer}
 use Rattle.types.specs.declared.BudgetAnswer.the-variants as BA
 use Rattle.types.specs.declared.AtomAnswer.{AtomAnswer}
 use Rattle.types.specs.declared.AtomAnswer.the-variants as A
 use Rattle.header.specs.Header.{headerRead}
 use Rattle.header.proofs.Places.{headerPlace, header-place}
+use Rattle.integer.proofs.Places.{integerPlace, integer-place}
 use Rattle.reader.specs.Strings.{startOf, stringAnswer, stringPlace}
 use Rattle.reader.proofs.Strings.{start-within, start-same}
 use Rattle.reader.proofs.Delivered.{string-forward}
 use Rattle.little.specs.Le.{numberAt}
-use Rattle.integer.specs.Integers.{integerFrom, integerBody, integerKind, allowedCount, integerOf}
+use Rattle.integer.specs.Integers.{integerFrom}
 use Rattle.float.specs.Floats.{floatFrom, floatBody, allowedFloat, floatOf}
-use Rattle.atom.specs.Charges.{countOf, numberCharge, budgetAfter}
+use Rattle.atom.specs.Charges.{countOf, numberCharge}
 use Rattle.atom.specs.Atoms.{atomRead, atomFrom, atomAfter, specialAtom, charged, integerAtom, floatAtom, bytesAtom, integerAfter, floatAfter, bytesAfter}
 
 -- the place and the budget after, refused or not
@@ -58,10 +56,6 @@ pub record Onward (at end left : ℕ) (a : AtomAnswer) : Type 0 where
   pub not-back : at ≤ atomPlace a
   pub not-past : atomPlace a ≤ end
   pub not-up : atomBudget a ≤ left
-
-abbrev integerPlace : IntegerAnswer → ℕ
-integerPlace (IA.Read p v) = p .0
-integerPlace (IA.Refused p r) = p .0
 
 abbrev floatPlace : FloatAnswer → ℕ
 floatPlace (FA.Read p v b) = p .0
@@ -80,23 +74,10 @@ bytes-on : (at end left : ℕ) (arg : ℕ) (rest : Budget) (a : BytesAnswer) →
 bytes-on at end left arg rest (B.Read p m) h k l = record { not-back = h; not-past = k; not-up = l }
 bytes-on at end left arg rest (B.Refused p r) h k l = record { not-back = h; not-past = k; not-up = l }
 
--- the bounds of `upTo`, seen through a measure of what it answers
-up-to-bounds : {X : Type 0} (place : X → ℕ) (way : Way) (n end at : ℕ) (taken : ℕ → X) (eof : X) → ((p : ℕ) → place (taken p) ≡ p) → place eof ≡ n → at ≤ n → at ≤ end → (t x : Bool) → leb end n ≡ t → (at ≤ place (pick t (taken end) (pick x eof (taken n)))) × (place (pick t (taken end) (pick x eof (taken n))) ≤ n)
-up-to-bounds place way n end at taken eof f g h k true x e = let q = leb-true end n e in (rw (f end) k, rw (f end) q)
-up-to-bounds place way n end at taken eof f g h k false true e = (rw g h, rw g (le-refl n))
-up-to-bounds place way n end at taken eof f g h k false false e = (rw (f n) h, rw (f n) (le-refl n))
-
-integer-bounds : (way : Way) (s : List ℕ) (at : ℕ) (kind : Kind) (count : ℕ) → at ≤ length s → (k a : Bool) → integerKind kind ≡ k → allowedCount count ≡ a → (at ≤ integerPlace (integerFrom way s at kind count)) × (integerPlace (integerFrom way s at kind count) ≤ length s)
-unfolding integerFrom integerBody
-integer-bounds way s at kind count h true true e f =
-    rw (e, f) (up-to-bounds integerPlace way (length s) (at + count) at (λ p. IA.Read (record { 0 = p }) (integerOf kind count (numberAt count s at))) (IA.Refused (record { 0 = length s }) R.Eof) (λ p. refl) refl h (omega arith) (leb (at + count) (length s)) (exact way) refl)
-integer-bounds way s at kind count h true false e f = rw (e, f) (omega arith, h)
-integer-bounds way s at kind count h false a e f = rw e (omega arith, h)
-
 float-bounds : (way : Way) (s : List ℕ) (at : ℕ) (count : ℕ) → at ≤ length s → (a : Bool) → allowedFloat count ≡ a → (at ≤ floatPlace (floatFrom way s at K.Float count)) × (floatPlace (floatFrom way s at K.Float count) ≤ length s)
 unfolding floatFrom floatBody
 float-bounds way s at count h true f =
-    rw f (up-to-bounds floatPlace way (length s) (at + count) at (λ p. FA.Read (record { 0 = p }) (floatOf count (numberAt count s at)) (numberAt count s at)) (FA.Refused (record { 0 = length s }) R.Eof) (λ p. refl) refl h (omega arith) (leb (at + count) (length s)) (exact way) refl)
+    rw f (up-to-between way (length s) (at + count) (λ p. FA.Read (record { 0 = p }) (floatOf count (numberAt count s at)) (numberAt count s at)) (FA.Refused (record { 0 = length s }) R.Eof) floatPlace (λ p. refl) refl at h (omega arith))
 float-bounds way s at count h false f = rw f (omega arith, h)
 
 -- a charge, and what follows it
@@ -116,7 +97,7 @@ module _ (way : Way) (s : List ℕ) (arg : ℕ) (next : Place) (budget : Budget)
   unfolding integerAfter
   integers kind =
       charged-on next budget (numberCharge (countOf arg)) (length s) (λ b. integerAtom kind arg b (integerFrom way s (next .0) kind (countOf arg))) h
-      (λ rest l. let w = integer-bounds way s (next .0) kind (countOf arg) h (integerKind kind) (allowedCount (countOf arg)) refl refl in integer-on (next .0) (length s) (budget .0) kind arg rest (integerFrom way s (next .0) kind (countOf arg)) (w .0) (w .1) l)
+      (λ rest l. let w = integer-place way s (next .0) kind (countOf arg) h in integer-on (next .0) (length s) (budget .0) kind arg rest (integerFrom way s (next .0) kind (countOf arg)) (w .0) (w .1) l)
       (ltb (budget .0) (numberCharge (countOf arg)))
       refl
 

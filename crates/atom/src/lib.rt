@@ -75,7 +75,7 @@ fn nucleus_of(special: Special) -> Nucleus
     }
 }
 
-// Atoms of each kind: the one place where an atom is put together.
+// Atoms put together, by kind; that of a special is in `read_special`.
 fn header_atom(kind: Kind, arg: u64) -> Atom
     ensures { λ r. ⌜ r ≡ atomOf kind arg N.None ⌝ }
 {

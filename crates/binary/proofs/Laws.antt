@@ -1,6 +1,6 @@
 -- The laws of widening and narrowing that other crates cite. W is one of `half-single`, `single-double` and `half-double` of `Widths`.
 use mathlib.Core.Path.{_≡_, refl, sym, ap, _∙_, subst}
-use mathlib.Core.Bool.{Bool}
+use mathlib.Core.Bool.{Bool, false≢true}
 use Prim.Native.Nat.{ℕ, suc, _+_, _-_, _*_, _%_, _^_, _≤_, _<_}
 use native.Mathlib.Nat.{add-zero, zero-mul, le-of-lt, le-of-eq, mod-lt, pow-suc}
 use native.Mathlib.Omega.{arith}
@@ -143,16 +143,16 @@ widened-in {narrow} {wide} W p b = go (reading narrow b)
 
 pub exact16 : (n : Narrowed) (q : ℕ) → answer16 n ≡ N16.the-variants.Pattern q → n ≡ exact q
 exact16 (exact r) q h = let e : r ≡ q = cc in ap exact e
-exact16 lost q h = absurd (let z : _≡_ {A = ℕ} 0 1 = cc in omega arith)
+exact16 lost q h = absurd (false≢true cc)
 
 pub lost16 : (n : Narrowed) → answer16 n ≡ N16.the-variants.None → n ≡ lost
-lost16 (exact r) h = absurd (let z : _≡_ {A = ℕ} 0 1 = cc in omega arith)
+lost16 (exact r) h = absurd (false≢true cc)
 lost16 lost h = refl
 
 pub exact32 : (n : Narrowed) (q : ℕ) → answer32 n ≡ N32.the-variants.Pattern q → n ≡ exact q
 exact32 (exact r) q h = let e : r ≡ q = cc in ap exact e
-exact32 lost q h = absurd (let z : _≡_ {A = ℕ} 0 1 = cc in omega arith)
+exact32 lost q h = absurd (false≢true cc)
 
 pub lost32 : (n : Narrowed) → answer32 n ≡ N32.the-variants.None → n ≡ lost
-lost32 (exact r) h = absurd (let z : _≡_ {A = ℕ} 0 1 = cc in omega arith)
+lost32 (exact r) h = absurd (false≢true cc)
 lost32 lost h = refl

@@ -1,7 +1,7 @@
 -- What `narrowed` answers, over any two layouts: by the fields of a pattern that has the value (`gives`), or because none has it (`loses`).
 -- And what it means: `narrows`, with `one-answer`, that no other answer does.
 use mathlib.Core.Path.{_≡_, refl, sym, ap, _∙_, subst}
-use mathlib.Core.Bool.{Bool, true, false, cond, _&&_}
+use mathlib.Core.Bool.{Bool, true, false, cond, _&&_, false≢true}
 use Prim.Native.Nat.{ℕ, _+_, _*_, _/_, _%_, _<_}
 use native.Mathlib.Nat.{mod-lt, div-add-mod', div-lt-iff-lt-mul, le-of-eq, le-of-lt, add-zero}
 use native.Mathlib.Omega.{arith}
@@ -16,12 +16,12 @@ pub narrowed-by : (from to : Layout) (b : ℕ) (m : Meaning) → meaning from b 
 unfolding narrowed
 narrowed-by from to b m e = ap (narrowedMeaning to) e
 
+clash : (e o : ℕ) → e < o → e ≡ o → ⊥
+clash e o h q = omega arith
+
 pub finite-meaning : (f : Layout) (b : ℕ) → exponent f b < allOnes f → meaning f b ≡ finite (negative f b) (magnitude f (exponent f b) (fraction f b))
 finite-meaning f b h = go (reading f b)
   where
-    clash : (e o : ℕ) → e < o → e ≡ o → ⊥
-    clash e o h q = omega arith
-
     go : Reading f b → meaning f b ≡ finite (negative f b) (magnitude f (exponent f b) (fraction f b))
     go (is-finite e m) = m
     go (is-infinite e z m) = absurd (clash (exponent f b) (allOnes f) h e)
@@ -32,7 +32,7 @@ finite-meaning f b h = go (reading f b)
 both-true : (a b : Bool) → (a && b) ≡ true → (a ≡ true) × (b ≡ true)
 both-true true true h = (refl, refl)
 both-true true false h = (refl, h)
-both-true false b h = (h, absurd (let z : _≡_ {A = ℕ} 0 1 = cc in omega arith))
+both-true false b h = (h, absurd (false≢true cc))
 
 -- the fields of the candidate, where the format has the magnitude
 pub found : (f : Layout) (m : ℕ) → has f m ≡ true
@@ -76,9 +76,6 @@ module _ (from to : Layout) (b : ℕ) where
       go : Reading from b → narrowed from to b ≡ exact (signed to (negative from b) (infinity to))
       go (is-infinite e z m) = narrowed-by from to b (infinite (negative from b)) m
       go (is-finite e m) = absurd (clash (exponent from b) (allOnes from) e E)
-        where
-          clash : (e o : ℕ) → e < o → e ≡ o → ⊥
-          clash e o h q = omega arith
       go (is-nan e n m) = absurd (some (fraction from b) n Z)
         where
           some : (t : ℕ) → 0 < t → t ≡ 0 → ⊥
@@ -91,9 +88,6 @@ module _ (from to : Layout) (b : ℕ) where
       go (is-nan e n m) = narrowed-by from to b (nan (negative from b) (fraction from b)) m
       go (is-infinite e z m) = absurd (N z)
       go (is-finite e m) = absurd (clash (exponent from b) (allOnes from) e E)
-        where
-          clash : (e o : ℕ) → e < o → e ≡ o → ⊥
-          clash e o h q = omega arith
 
 -- ---- what it means
 
@@ -117,10 +111,10 @@ value-has : (f : Layout) (q : ℕ) (s : Bool) (m : ℕ) → meaning f q ≡ fini
 value-has f q s m h = go (reading f q)
   where
     bad : (x : Meaning) (t : Bool) → x ≡ infinite t → x ≡ finite s m → ⊥
-    bad x t a c = let z : _≡_ {A = ℕ} 0 1 = cc in omega arith
+    bad x t a c = false≢true cc
 
     bad' : (x : Meaning) (t : Bool) (k : ℕ) → x ≡ nan t k → x ≡ finite s m → ⊥
-    bad' x t k a c = let z : _≡_ {A = ℕ} 0 1 = cc in omega arith
+    bad' x t k a c = false≢true cc
 
     same : (x : Meaning) (t : Bool) (k : ℕ) → x ≡ finite t k → x ≡ finite s m → k ≡ m
     same x t k a c = cc
@@ -135,7 +129,7 @@ narrows-meaning : (from to : Layout) (b : ℕ) (m : Meaning) → meaning from b 
 narrows-meaning from to b (finite s m) h = go (has to m) refl
   where
     lacks : (x : Bool) → x ≡ false → x ≡ true → ⊥
-    lacks x p q = let z : _≡_ {A = ℕ} 0 1 = cc in omega arith
+    lacks x p q = false≢true cc
 
     go : (x : Bool) → has to m ≡ x → Narrows from to b (cond (has to m) (exact (signed to s (candidate to m))) lost)
     go true e =

@@ -2,7 +2,7 @@
 -- So a meaning has one pattern (`one-pattern`), and a magnitude that a format has is found by `candidate` (`candidate-is`, `has-it`).
 use mathlib.Core.Path.{_≡_, refl, sym, ap, _∙_, subst}
 use mathlib.Core.Logic.{_⊎_, inl, inr}
-use mathlib.Core.Bool.{Bool, true, false, cond}
+use mathlib.Core.Bool.{Bool, true, false, cond, false≢true}
 use Prim.Native.Nat.{ℕ, _+_, _-_, _*_, _/_, _%_, _^_, _≤_, _<_}
 use native.Mathlib.Nat.{mod-lt, mod-eq-of-lt, mod-eq-sub-mod, add-mod-left, mul-add-mod-self-right, add-sub-of-le, div-add-mod', mod-mod-of-dvd, dvd-mul-left, div-lt-iff-lt-mul, mul-div-cancel, eq-of-mul-eq-mul-right, eq-zero-or-pos, zero-add, eq-or-lt-of-le}
 use native.Mathlib.Omega.{arith}
@@ -132,13 +132,13 @@ cancel : (u a b : ℕ) → a * 2 ^ u ≡ b * 2 ^ u → a ≡ b
 cancel u a b h = eq-of-mul-eq-mul-right (2 ^ u) (pow-pos u) a b h
 
 no : (x y : Meaning) (s t : Bool) (m : ℕ) → x ≡ finite s m → y ≡ infinite t → x ≡ y → ⊥
-no x y s t m p q r = let z : _≡_ {A = ℕ} 0 1 = cc in omega arith
+no x y s t m p q r = false≢true cc
 
 no' : (x y : Meaning) (s t : Bool) (m k : ℕ) → x ≡ finite s m → y ≡ nan t k → x ≡ y → ⊥
-no' x y s t m k p q r = let z : _≡_ {A = ℕ} 0 1 = cc in omega arith
+no' x y s t m k p q r = false≢true cc
 
 no'' : (x y : Meaning) (s t : Bool) (k : ℕ) → x ≡ infinite s → y ≡ nan t k → x ≡ y → ⊥
-no'' x y s t k p q r = let z : _≡_ {A = ℕ} 0 1 = cc in omega arith
+no'' x y s t k p q r = false≢true cc
 
 both-finite : (x y : Meaning) (s t : Bool) (m k : ℕ) → x ≡ finite s m → y ≡ finite t k → x ≡ y → (s ≡ t) × (m ≡ k)
 both-finite x y s t m k p q r = let e : finite s m ≡ finite t k = cc in (cc, cc)

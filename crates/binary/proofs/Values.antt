@@ -1,10 +1,9 @@
 -- The logic's own account of `f32` and `f64` agrees with the formats of this crate: what `ofBits` reads from a pattern has the pattern's sign and magnitude, is the same infinity, or is the NaN exactly at a NaN's pattern.
 -- Rests on `lib.Ieee`: that `odd` keeps its value, and that what is read fits its format.
 use mathlib.Core.Path.{_≡_, refl, sym, ap, _∙_, subst}
-use mathlib.Core.Bool.{Bool, true, false, not, cond}
+use mathlib.Core.Bool.{Bool, true, false, not, cond, false≢true}
 use Prim.Native.Nat.{ℕ, zero, suc, _+_, _-_, _*_, _/_, _%_, _^_, _<_}
 use native.Mathlib.Nat.{mul-one}
-use native.Mathlib.Omega.{arith}
 use lib.Dec.{T, leb, eqb, lit<}
 use lib.Ieee.{Float, Format, binary32, binary64, prec, low, hid, ones, top, odd, fits, isNan, ofFields, ofBits, toBits}
 use lib.Ieee as I
@@ -92,10 +91,10 @@ pub toBits-means : (f : Format) (x : Float) → T (fits f x) → plain (meaning 
 toBits-means f x F = sym (ofBits-means f (toBits f x)) ∙ ap floatMeaning (ofBits-toBits f x F)
 
 differ : (s : Bool) (m : ℕ) → nan false 0 ≡ finite s m → ⊥
-differ s m h = let z : _≡_ {A = ℕ} 0 1 = cc in omega arith
+differ s m h = false≢true cc
 
 differ' : (s : Bool) → nan false 0 ≡ infinite s → ⊥
-differ' s h = let z : _≡_ {A = ℕ} 0 1 = cc in omega arith
+differ' s h = false≢true cc
 
 plain-number : (y z : Meaning) → plain y ≡ plain z → Number z → y ≡ z
 plain-number (finite s m) (finite t n) h k = h

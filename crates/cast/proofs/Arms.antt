@@ -1,7 +1,7 @@
 -- The arms of the casts, each kind of arm once, over the widths: a value that is taken, a value that does not fit, and the
 -- variants that are too wide. Rests on the laws of ranges.
 use mathlib.Core.Path.{_≡_, refl, _∙_, sym, ap, subst}
-use mathlib.Core.Bool.{Bool, true, false, _&&_}
+use mathlib.Core.Bool.{Bool, true, false, _&&_, false≢true}
 use mathlib.Core.List.{List, [], _∷_}
 use Prim.Native.Nat.{ℕ, suc, _-_, _^_, _≤_, _<_}
 use native.Mathlib.Nat.{le-of-lt, le-refl}
@@ -30,7 +30,7 @@ use Rattle.types.proofs.Integer as Made
 use Rattle.cast.specs.Variants.{width, variant, inRange, joined, wideOf}
 use Rattle.cast.specs.Casts.{cast, keptWords, asI128, asU128}
 use Rattle.cast.proofs.Words.{Held, words-joined, joined-fits, wide-back, low-half, high-half, high-negative, small-words, negative-words}
-use Rattle.cast.proofs.Ranges.{no, wider, wider-signed, wider-unsigned, signed-fits, fits-signed, fits-unsigned, variant-width, variant-value}
+use Rattle.cast.proofs.Ranges.{wider, wider-signed, wider-unsigned, signed-fits, fits-signed, fits-unsigned, variant-width, variant-value}
 
 -- ---- what a cast answers, by the variant's sign and width and its value
 
@@ -123,15 +123,15 @@ nat-passes n h = omega (arith, leb-false 0 n h)
 module _ (v w : Width) (n : T (leb (bytes v) (bytes w))) where
   pub natural : (z : ℤ) → SFits v z → leZ (pos 0) (toZ v (ofZ v z)) ≡ true → T (nonNeg (toZ v (ofZ v z))) × Fits w (natAbs (toZ v (ofZ v z)))
   natural (pos k) h t = rw (toZ-ofZ v (pos k) h) (tt, record { fits = ltb-true k (2 ^ bits w) (wider-unsigned v w n k (fits-signed v (pos k) h)) })
-  natural (negsuc k) h t = absurd (no (rw (toZ-ofZ v (negsuc k) h) at t))
+  natural (negsuc k) h t = absurd (false≢true (rw (toZ-ofZ v (negsuc k) h) at t))
 
   pub natural-in : (z : ℤ) → SFits v z → leZ (pos 0) (toZ v (ofZ v z)) ≡ true → inRange unsigned w z ≡ true
   natural-in (pos k) h t = wider-unsigned v w n k (fits-signed v (pos k) h)
-  natural-in (negsuc k) h t = absurd (no (rw (toZ-ofZ v (negsuc k) h) at t))
+  natural-in (negsuc k) h t = absurd (false≢true (rw (toZ-ofZ v (negsuc k) h) at t))
 
   pub natural-is : (z : ℤ) → SFits v z → leZ (pos 0) (toZ v (ofZ v z)) ≡ true → pos (natAbs (toZ v (ofZ v z))) ≡ z
   natural-is (pos k) h t = rw (toZ-ofZ v (pos k) h)
-  natural-is (negsuc k) h t = absurd (no (rw (toZ-ofZ v (negsuc k) h) at t))
+  natural-is (negsuc k) h t = absurd (false≢true (rw (toZ-ofZ v (negsuc k) h) at t))
 
   pub negative-out : (z : ℤ) → SFits v z → leZ (pos 0) (toZ v (ofZ v z)) ≡ false → inRange unsigned w z ≡ false
   negative-out (pos k) h t = absurd (nat-passes k (rw (toZ-ofZ v (pos k) h) at t))

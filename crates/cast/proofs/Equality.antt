@@ -1,6 +1,6 @@
 -- Two integers are equal exactly if they stand at one place of the enum and their bits are the same: of a sign, and of either.
 use mathlib.Core.Path.{_≡_, refl, _∙_, sym, ap, subst}
-use mathlib.Core.Bool.{Bool, true, false, not, _&&_}
+use mathlib.Core.Bool.{Bool, true, false, not, _&&_, false≢true}
 use mathlib.Core.List.{List, [], _∷_}
 use Prim.Native.Nat.{ℕ, suc, _-_, _*_, _^_, _<_}
 use native.Mathlib.Omega.{arith}
@@ -20,7 +20,7 @@ use Rattle.types.specs.declared.Wide.{Wide}
 use Rattle.types.proofs.Integer as Made
 use Rattle.cast.specs.Variants.{sign, width, value, variant, inRange, joined, words, sameSign, sameValue, equalIntegers, equalOf}
 use Rattle.cast.proofs.Words.{Held, joined-fits, words-joined, wide-back}
-use Rattle.cast.proofs.Ranges.{no, fits-signed, fits-unsigned, variant-sign, variant-width, variant-value}
+use Rattle.cast.proofs.Ranges.{fits-signed, fits-unsigned, variant-sign, variant-width, variant-value}
 
 -- ---- two values, by their bits
 
@@ -127,8 +127,8 @@ others k = without k (0 ∷ 1 ∷ 2 ∷ 3 ∷ 4 ∷ 5 ∷ 6 ∷ 7 ∷ 8 ∷ 9 �
 
 same-sign : (s t : Sign) → sameSign s t ≡ true → s ≡ t
 same-sign signed signed h = refl
-same-sign signed unsigned h = absurd (no h)
-same-sign unsigned signed h = absurd (no h)
+same-sign signed unsigned h = absurd (false≢true h)
+same-sign unsigned signed h = absurd (false≢true h)
 same-sign unsigned unsigned h = refl
 
 different : (a b : Integer) → (Declared.tagOf Made.the-type a ≡ Declared.tagOf Made.the-type b → ⊥) → false ≡ equalIntegers a b
@@ -140,7 +140,7 @@ different a b d = by (sameSign (sign a) (sign b)) (eqb (bytes (width a)) (bytes 
       where
         yes : (t : Bool) → t ≡ true → T t
         yes true h = tt
-        yes false h = absurd (no h)
+        yes false h = absurd (false≢true h)
     by true false p q = refl
     by false u p q = refl
 

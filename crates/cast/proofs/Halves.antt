@@ -1,7 +1,7 @@
 -- `From` by halves: what the code does, width by width, picks the variant that the definition finds among all the smaller
 -- ones. Rests on the laws of ranges: what half a width does not hold, no smaller width of that sign holds.
 use mathlib.Core.Path.{_≡_, refl, _∙_, sym, ap}
-use mathlib.Core.Bool.{Bool, true, false}
+use mathlib.Core.Bool.{Bool, true, false, false≢true}
 use Prim.Native.Nat.{ℕ, suc, _+_, _-_, _*_, _^_, _≤_, _<_}
 use native.Mathlib.Nat.{le-trans, mul-le-mul-right, suc-mul}
 use native.Mathlib.Omega.{arith}
@@ -17,7 +17,7 @@ use Rattle.types.specs.declared.Wide.{Wide}
 use Rattle.cast.specs.Variants.{variant, inRange, joined}
 use Rattle.cast.specs.Froms.{from}
 use Rattle.cast.proofs.Words.{Held, words-joined, wide-back, low-half, high-negative}
-use Rattle.cast.proofs.Ranges.{no, narrower, signed-fits}
+use Rattle.cast.proofs.Ranges.{narrower, signed-fits}
 use Rattle.cast.proofs.Between.{is-under, is-inside, is-over}
 
 -- half a width; the narrowest has none, and stands for itself
@@ -71,7 +71,7 @@ module _ (w : Width) (n : T (ltb (bytes (half w)) (bytes w))) (k j : ℕ) (K : s
   at-ends z t h = ap (ltb (mag z)) (sym K) ∙ h
 
   under-unsigned : (z : ℤ) → ltZ z (negsuc k) ≡ true → inRange unsigned (half w) z ≡ false
-  under-unsigned (pos m) h = absurd (no h)
+  under-unsigned (pos m) h = absurd (false≢true h)
   under-unsigned (negsuc m) h = refl
 
   between-unsigned : (z : ℤ) → leZ z (pos k) ≡ false → leZ z (pos j) ≡ true → inRange unsigned (half w) z ≡ true
@@ -79,22 +79,22 @@ module _ (w : Width) (n : T (ltb (bytes (half w)) (bytes w))) (k j : ℕ) (K : s
     where
       reach : (m j b : ℕ) → suc j ≡ b → m ≤ j → m < b
       reach m j b e h = omega arith
-  between-unsigned (negsuc m) h l = absurd (no (sym h))
+  between-unsigned (negsuc m) h l = absurd (false≢true (sym h))
 
   over-unsigned : (z : ℤ) → leZ z (pos j) ≡ false → inRange unsigned (half w) z ≡ false
   over-unsigned (pos m) h = le-ltb m (2 ^ bits (half w)) (reach m j (2 ^ bits (half w)) J (leb-false m j h))
     where
       reach : (m j b : ℕ) → suc j ≡ b → j < m → b ≤ m
       reach m j b e h = omega arith
-  over-unsigned (negsuc m) h = absurd (no (sym h))
+  over-unsigned (negsuc m) h = absurd (false≢true (sym h))
 
   is-natural : (z : ℤ) → inRange unsigned (half w) z ≡ true → pos (natAbs z) ≡ z
   is-natural (pos m) h = refl
-  is-natural (negsuc m) h = absurd (no h)
+  is-natural (negsuc m) h = absurd (false≢true h)
 
   natural-fits : (z : ℤ) → inRange unsigned (half w) z ≡ true → T (nonNeg z) × Fits (half w) (natAbs z)
   natural-fits (pos m) h = (tt, record { fits = ltb-true m (2 ^ bits (half w)) h })
-  natural-fits (negsuc m) h = absurd (no h)
+  natural-fits (negsuc m) h = absurd (false≢true h)
 
   module _ (z : ℤ) (f : SFits w z) where
     pub from-under : ltZ (toZ w (ofZ w z)) (negsuc k) ≡ true → variant signed w (toZ w (ofZ w z)) ≡ from signed w z

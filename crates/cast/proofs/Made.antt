@@ -2,7 +2,7 @@
 -- width that holds the value at all. So a cast of it goes by value: it is refused exactly if the value lies outside the
 -- target's range, and otherwise comes out as that value.
 use mathlib.Core.Path.{_≡_, refl, _∙_, sym, ap, subst}
-use mathlib.Core.Bool.{Bool, true, false, _&&_}
+use mathlib.Core.Bool.{Bool, true, false, _&&_, false≢true}
 use mathlib.Core.Logic.{_⊎_, inl, inr}
 use native.Mathlib.Nat.{le-refl, le-trans}
 use lib.Dec.{T, leb, ltb, leb→le, le→leb, lt→ltb}
@@ -19,7 +19,7 @@ use Rattle.types.specs.declared.AsU8.the-variants as AsU8
 use Rattle.cast.specs.Variants.{width, value, variant, inRange}
 use Rattle.cast.specs.Casts.{castable, cast, asU8}
 use Rattle.cast.specs.Froms.{tried, from}
-use Rattle.cast.proofs.Ranges.{no, wider-unsigned, variant-width, variant-value}
+use Rattle.cast.proofs.Ranges.{wider-unsigned, variant-width, variant-value}
 
 -- ---- one try: what holds of the variants of a width that hold the value, and of what is left, holds of the try
 
@@ -48,8 +48,8 @@ tried-hit P signed u z x f h = by (inRange signed u z) (inRange unsigned u z) re
     by : (a b : Bool) → inRange signed u z ≡ a → inRange unsigned u z ≡ b → Hit signed u z → P (pick a (variant signed u z) (pick b (variant unsigned u z) x))
     by true b e k i = f signed e
     by false true e k i = f unsigned k
-    by false false e k (inl i) = absurd (no (sym e ∙ i))
-    by false false e k (inr i) = absurd (no (sym k ∙ i))
+    by false false e k (inl i) = absurd (false≢true (sym e ∙ i))
+    by false false e k (inr i) = absurd (false≢true (sym k ∙ i))
 
 -- ---- `From` makes a variant that holds the value, no wider than the number's type
 
@@ -113,7 +113,7 @@ hit signed w z h signed v k = inl k
 hit signed w z h unsigned v k = inr k
 hit unsigned w (pos n) h signed v k = wider-unsigned v v (le→leb (bytes v) (bytes v) (le-refl (bytes v))) n k
 hit unsigned w (pos n) h unsigned v k = k
-hit unsigned w (negsuc n) h t v k = absurd (no h)
+hit unsigned w (negsuc n) h t v k = absurd (false≢true h)
 
 pub from-least : (s : Sign) (w : Width) (z : ℤ) → inRange s w z ≡ true → (t : Sign) (v : Width) → inRange t v z ≡ true → Within v (from s w z)
 from-least s w z h t v k = by (leb (bytes w) (bytes v)) refl

@@ -1,6 +1,6 @@
 -- Ranges by width, and the variant that holds a value of its range: its sign, its width and its value are those it was made of.
 use mathlib.Core.Path.{_≡_, refl, _∙_, sym, ap}
-use mathlib.Core.Bool.{Bool, true, false}
+use mathlib.Core.Bool.{Bool, true, false, false≢true}
 use Prim.Native.Nat.{ℕ, _*_, _^_, _≤_}
 use native.Mathlib.Nat.{lt-of-lt-of-le}
 use native.Mathlib.Omega.{arith}
@@ -14,9 +14,6 @@ use mir.ValLaws.{toZ-ofZ, bits-suc}
 use borrow.Author.Tests.{lt-ltb, ltb-true}
 use Rattle.cast.specs.Variants.{sign, width, value, variant, inRange}
 use Rattle.cast.proofs.Words.{joined-words}
-
-pub no : false ≡ true → ⊥
-no h = let z : _≡_ {A = ℕ} 0 1 = cc in omega arith
 
 pub signed-fits : (w : Width) (z : ℤ) → inRange signed w z ≡ true → SFits w z
 signed-fits w z h = record { sfits = ltb-true (mag z) (2 ^ hbits w) h }
@@ -60,7 +57,7 @@ wider unsigned v w t (negsuc n) h = h
 -- what an unsigned width holds, every wider signed one holds
 pub wider-signed : (v w : Width) → T (ltb (bytes v) (bytes w)) → (z : ℤ) → inRange unsigned v z ≡ true → inRange signed w z ≡ true
 wider-signed v w t (pos n) h = raised n (bits v) (hbits w) (bits-hbits v w t) h
-wider-signed v w t (negsuc n) h = absurd (no h)
+wider-signed v w t (negsuc n) h = absurd (false≢true h)
 
 -- what a signed width holds from 0 up, the unsigned width and every wider one hold
 pub wider-unsigned : (v w : Width) → T (leb (bytes v) (bytes w)) → (n : ℕ) → inRange signed v (pos n) ≡ true → inRange unsigned w (pos n) ≡ true
@@ -71,7 +68,7 @@ pub narrower : (s : Sign) (v w : Width) → T (leb (bytes v) (bytes w)) → (z :
 narrower s v w t z h = by (inRange s v z) refl
   where
     by : (b : Bool) → inRange s v z ≡ b → inRange s v z ≡ false
-    by true e = absurd (no (sym h ∙ wider s v w t z e))
+    by true e = absurd (false≢true (sym h ∙ wider s v w t z e))
     by false e = e
 
 -- ---- the variant that holds a value
@@ -106,7 +103,7 @@ variant-value signed w16 z h = refl
 variant-value signed w32 z h = refl
 variant-value signed w64 z h = refl
 variant-value signed w128 z h = ap (toZ w128) (joined-words (ofZ w128 z)) ∙ toZ-ofZ w128 z (signed-fits w128 z h)
-variant-value unsigned w (negsuc n) h = absurd (no h)
+variant-value unsigned w (negsuc n) h = absurd (false≢true h)
 variant-value unsigned w8 (pos n) h = refl
 variant-value unsigned w16 (pos n) h = refl
 variant-value unsigned w32 (pos n) h = refl

@@ -1,15 +1,16 @@
 -- What a body does in a step, at each of its ends; and that it is what `read_atom` does there, with the value forgotten.
 use mathlib.Core.Path.{_≡_, refl, _∙_, sym, ap}
-use mathlib.Core.Bool.{Bool, true, false}
+use mathlib.Core.Bool.{Bool, true, false, false≢true}
 use mathlib.Core.List.{List, [], _∷_}
 use Prim.Native.Nat.{ℕ, zero, suc, _+_, _-_, _≤_, _<_}
 use native.Mathlib.Omega.{arith}
 use lib.Dec.{ltb, leb}
 use lib.ListN.{length}
-use borrow.Author.Tests.{lt-ltb, le-ltb, le-leb, lt-leb, ltb-true, ltb-false, leb-true, leb-false, ne-eqb}
+use borrow.Author.Tests.{lt-ltb, le-ltb, le-leb, lt-leb, ltb-true, ltb-false, leb-true, leb-false}
 use types.Run.{OneOf, miss}
 use denote.Enum.Declared.{tagOf}
 use Rattle.types.proofs.Kind.{the-type}
+use Rattle.types.proofs.Specials.{special-unknown}
 use Rattle.types.specs.declared.Way.the-variants as W
 use Rattle.types.specs.declared.Kind.{Kind}
 use Rattle.types.specs.declared.Kind.the-variants as K
@@ -17,13 +18,15 @@ use Rattle.types.specs.declared.Place.{Place}
 use Rattle.types.specs.declared.Budget.{Budget}
 use Rattle.types.specs.declared.Refusal.{Refusal}
 use Rattle.types.specs.declared.Refusal.the-variants as R
+use Rattle.types.specs.declared.SpecialAnswer.{SpecialAnswer}
 use Rattle.types.specs.declared.HeaderAnswer.the-variants as H
 use Rattle.types.specs.declared.Skipped.the-variants as SK
 use Rattle.reader.specs.Strings.{lentString}
-use Rattle.integer.specs.Integers.{allowedCount, integerFrom, integerBody}
+use Rattle.integer.specs.Integers.{integerKind, allowedCount, integerFrom, integerBody}
 use Rattle.float.specs.Floats.{allowedFloat, floatFrom, floatBody}
 use Rattle.atom.specs.Charges.{countOf, numberCharge}
-use Rattle.atom.specs.Atoms.{integerAfter, floatAfter, bytesAfter, atomAfter}
+use Rattle.atom.specs.Atoms.{specialAtom, integerAfter, floatAfter, bytesAfter, atomAfter}
+use Rattle.dictionary.specs.Wholes.{isString}
 use Rattle.dictionary.specs.Steps.{forgotten, bodyPast, bodyAfter}
 
 -- the four ends of a body
@@ -74,39 +77,20 @@ module _ (s : List ℕ) (arg : ℕ) (next : Place) (budget : Budget) where
       none : (n : ℕ) → suc (suc (suc (suc (suc (suc (suc n)))))) < 7 → ⊥
       none n h = omega arith
 
-  differs : (i : ℕ) → i < 7 → 7 ≤ arg → arg ≡ i → ⊥
-  differs i h k e = omega arith
-
   special-other : 7 ≤ arg → forgotten (H.Read next K.Special arg) (atomAfter W.ExactLent s K.Special arg next budget []) ≡ SK.Refused next budget (R.UnknownSpecial arg)
-  special-other k =
-      simp (
-        ne-eqb arg 0 (differs 0 (omega arith) k),
-        ne-eqb arg 1 (differs 1 (omega arith) k),
-        ne-eqb arg 2 (differs 2 (omega arith) k),
-        ne-eqb arg 3 (differs 3 (omega arith) k),
-        ne-eqb arg 4 (differs 4 (omega arith) k),
-        ne-eqb arg 5 (differs 5 (omega arith) k),
-        ne-eqb arg 6 (differs 6 (omega arith) k),
-      )
+  special-other k = ap (λ (a : SpecialAnswer). forgotten (H.Read next K.Special arg) (specialAtom arg next budget a)) (special-unknown arg k)
 
   special-after : next .0 ≤ length s → (t : Bool) → ltb arg 7 ≡ t → forgotten (H.Read next K.Special arg) (atomAfter W.ExactLent s K.Special arg next budget []) ≡ bodyAfter (length s) K.Special arg (next .0) (budget .0)
   special-after h true e = special-known arg (ltb-true arg 7 e) ∙ past-special (length s) (next .0) (budget .0) arg h (ltb-true arg 7 e)
   special-after h false e = special-other (ltb-false arg 7 e) ∙ past-other (length s) (next .0) (budget .0) arg (ltb-false arg 7 e)
 
   -- a number, by the tests that it passes
-  int-after : (t u v : Bool) → ltb (budget .0) (numberCharge (countOf arg)) ≡ t → allowedCount (countOf arg) ≡ u → leb (next .0 + countOf arg) (length s) ≡ v → forgotten (H.Read next K.Int arg) (integerAfter W.ExactLent s K.Int arg next budget) ≡ bodyAfter (length s) K.Int arg (next .0) (budget .0)
+  integer-after : (kind : Kind) → integerKind kind ≡ true → (t u v : Bool) → ltb (budget .0) (numberCharge (countOf arg)) ≡ t → allowedCount (countOf arg) ≡ u → leb (next .0 + countOf arg) (length s) ≡ v → forgotten (H.Read next kind arg) (integerAfter W.ExactLent s kind arg next budget) ≡ bodyPast (length s) (next .0) (budget .0) (isString kind) (countOf arg) (numberCharge (countOf arg)) (allowedCount (countOf arg)) (R.UnsupportedByteCount kind (countOf arg))
   unfolding integerAfter integerFrom integerBody bodyPast
-  int-after true u v a b c = simp a
-  int-after false false v a b c = simp (a, b)
-  int-after false true true a b c = simp (a, b, c)
-  int-after false true false a b c = simp (a, b, c)
-
-  uint-after : (t u v : Bool) → ltb (budget .0) (numberCharge (countOf arg)) ≡ t → allowedCount (countOf arg) ≡ u → leb (next .0 + countOf arg) (length s) ≡ v → forgotten (H.Read next K.UInt arg) (integerAfter W.ExactLent s K.UInt arg next budget) ≡ bodyAfter (length s) K.UInt arg (next .0) (budget .0)
-  unfolding integerAfter integerFrom integerBody bodyPast
-  uint-after true u v a b c = simp a
-  uint-after false false v a b c = simp (a, b)
-  uint-after false true true a b c = simp (a, b, c)
-  uint-after false true false a b c = simp (a, b, c)
+  integer-after kind k true u v a b c = simp a
+  integer-after kind k false false v a b c = simp (a, k, b)
+  integer-after kind k false true true a b c = simp (a, k, b, c)
+  integer-after kind k false true false a b c = simp (a, k, b, c)
 
   float-after : (t u v : Bool) → ltb (budget .0) (numberCharge (countOf arg)) ≡ t → allowedFloat (countOf arg) ≡ u → leb (next .0 + countOf arg) (length s) ≡ v → forgotten (H.Read next K.Float arg) (floatAfter W.ExactLent s arg next budget) ≡ bodyAfter (length s) K.Float arg (next .0) (budget .0)
   unfolding floatAfter floatFrom floatBody bodyPast
@@ -125,8 +109,8 @@ module _ (s : List ℕ) (arg : ℕ) (next : Place) (budget : Budget) where
   -- EVERY KIND: what `read_atom` does after a header, with the value forgotten
   pub after-header : (kind : Kind) → next .0 ≤ length s → forgotten (H.Read next kind arg) (atomAfter W.ExactLent s kind arg next budget []) ≡ bodyAfter (length s) kind arg (next .0) (budget .0)
   after-header K.Special h = special-after h (ltb arg 7) refl
-  after-header K.Int h = int-after (ltb (budget .0) (numberCharge (countOf arg))) (allowedCount (countOf arg)) (leb (next .0 + countOf arg) (length s)) refl refl refl
-  after-header K.UInt h = uint-after (ltb (budget .0) (numberCharge (countOf arg))) (allowedCount (countOf arg)) (leb (next .0 + countOf arg) (length s)) refl refl refl
+  after-header K.Int h = integer-after K.Int refl (ltb (budget .0) (numberCharge (countOf arg))) (allowedCount (countOf arg)) (leb (next .0 + countOf arg) (length s)) refl refl refl
+  after-header K.UInt h = integer-after K.UInt refl (ltb (budget .0) (numberCharge (countOf arg))) (allowedCount (countOf arg)) (leb (next .0 + countOf arg) (length s)) refl refl refl
   after-header K.Float h = float-after (ltb (budget .0) (numberCharge (countOf arg))) (allowedFloat (countOf arg)) (leb (next .0 + countOf arg) (length s)) refl refl refl
   after-header K.Sequence h = past-header (length s) (next .0) (budget .0) R.Eof h
   after-header K.Map h = past-header (length s) (next .0) (budget .0) R.Eof h
@@ -158,17 +142,11 @@ pub record Passed (size at left : ℕ) (string : Bool) (len charge : ℕ) (allow
   pub starts : body ≡ at
   pub told : t ≡ string
 
-never : {X : Type 0} → _≡_ {A = ℕ} 0 1 → X
-never z = absurd (no z)
-  where
-    no : _≡_ {A = ℕ} 0 1 → ⊥
-    no z = omega arith
-
 module _ (size at left : ℕ) (string : Bool) (len charge : ℕ) (why : Refusal) (place : Place) (rest : Budget) (body : Place) (t : Bool) where
   passed-at : (allowed u v : Bool) → ltb left charge ≡ u → leb (at + len) size ≡ v → bodyPast size at left string len charge allowed why ≡ SK.Past place rest body t → Passed size at left string len charge allowed (place .0) (rest .0) (body .0) t
-  passed-at allowed true v a b e = never (let x = sym e ∙ past-over size at left string len charge why allowed (ltb-true left charge a) in cc)
-  passed-at false false v a b e = never (let x = sym e ∙ past-unknown size at left string len charge why (ltb-false left charge a) in cc)
-  passed-at true false false a b e = never (let x = sym e ∙ past-eof size at left string len charge why (ltb-false left charge a) (leb-false (at + len) size b) in cc)
+  passed-at allowed true v a b e = absurd (false≢true (let x = sym e ∙ past-over size at left string len charge why allowed (ltb-true left charge a) in cc))
+  passed-at false false v a b e = absurd (false≢true (let x = sym e ∙ past-unknown size at left string len charge why (ltb-false left charge a) in cc))
+  passed-at true false false a b e = absurd (false≢true (let x = sym e ∙ past-eof size at left string len charge why (ltb-false left charge a) (leb-false (at + len) size b) in cc))
   passed-at true false true a b e =
       let h = ltb-false left charge a in
       let k = leb-true (at + len) size b in

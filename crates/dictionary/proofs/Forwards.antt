@@ -1,6 +1,6 @@
 -- THE EXACT READ GOES FORWARD: an atom that it takes has a byte at least and never passes the end, and the budget never rises.
 use mathlib.Core.Path.{_≡_, refl, _∙_, sym, ap}
-use mathlib.Core.Bool.{Bool, true, false}
+use mathlib.Core.Bool.{Bool, true, false, false≢true}
 use mathlib.Core.List.{List, []}
 use Prim.Native.Nat.{ℕ, _+_, _-_, _≤_, _<_}
 use native.Mathlib.Omega.{arith}
@@ -58,18 +58,12 @@ same s left p b place rest why r h k e =
     let n : rest .0 ≡ b = ap (λ (z : Budget). z .0) y in
     record { inside = omega arith; falls = omega arith }
 
-no : {X : Type 0} → _≡_ {A = ℕ} 0 1 → X
-no z = absurd (never z)
-  where
-    never : _≡_ {A = ℕ} 0 1 → ⊥
-    never z = omega arith
-
 body-halted : (s : List ℕ) (at left : ℕ) (string : Bool) (len charge : ℕ) (r : Refusal) (place : Place) (rest : Budget) (why : Refusal) → at ≤ length s → (allowed u v : Bool) → ltb left charge ≡ u → leb (at + len) (length s) ≡ v → bodyPast (length s) at left string len charge allowed r ≡ SK.Refused place rest why → Halted s left (place .0) (rest .0)
 body-halted s at left string len charge r place rest why h allowed true v a b e = same s left at left place rest why _ h (omega arith) (sym e ∙ past-over (length s) at left string len charge r allowed (ltb-true left charge a))
 body-halted s at left string len charge r place rest why h false false v a b e = same s left at (left - charge) place rest why _ h (omega arith) (sym e ∙ past-unknown (length s) at left string len charge r (ltb-false left charge a))
 body-halted s at left string len charge r place rest why h true false false a b e = same s left (length s) (left - charge) place rest why _ (omega arith) (omega arith) (sym e ∙ past-eof (length s) at left string len charge r (ltb-false left charge a) (leb-false (at + len) (length s) b))
 body-halted s at left string len charge r place rest why h true false true a b e =
-    no (let x = sym e ∙ past-whole (length s) at left string len charge r (ltb-false left charge a) (leb-true (at + len) (length s) b) in cc)
+    absurd (false≢true (let x = sym e ∙ past-whole (length s) at left string len charge r (ltb-false left charge a) (leb-true (at + len) (length s) b) in cc))
 
 module _ (s : List ℕ) (at : ℕ) (within : at ≤ length s) (budget : Budget) (place : Place) (rest : Budget) (why : Refusal) where
   halted-at : (v : Bool) → leb (at + headerLength (drop at s)) (length s) ≡ v → skipped s at budget ≡ SK.Refused place rest why → Halted s (budget .0) (place .0) (rest .0)

@@ -1,7 +1,7 @@
 -- THE PRICE OF A FILE IS EXACT (demand 3): what the tally and the run answer of a list of whole, known atoms; and what the tally
 -- answers of every other input. It rests on the step at one atom, by induction over the list.
 use mathlib.Core.Path.{_≡_, refl, _∙_, sym, ap, subst}
-use mathlib.Core.Bool.{Bool, true, false}
+use mathlib.Core.Bool.{Bool, true, false, false≢true}
 use mathlib.Core.List.{List, [], _∷_, _++_, append-assoc, append-nil}
 use mathlib.Core.Logic.{_⊎_, inl, inr, ⊎-elim}
 use Prim.Native.Nat.{ℕ, zero, suc, _+_, _-_, _*_, _≤_, _<_}
@@ -395,29 +395,23 @@ pub judged : (s : List ℕ) → Made s ⊎ Broken s
 judged s = judged-by (suc (length s)) s (omega arith)
 
 -- THE TALLY NEVER ANSWERS 5: it has no budget
-other-refusal : (kind : Kind) (arg : ℕ) → unknown kind arg ≡ R.TooManyBytesRead → _≡_ {A = ℕ} 0 1
-other-refusal K.Special arg e = cc
-other-refusal K.Int arg e = cc
-other-refusal K.UInt arg e = cc
-other-refusal K.Float arg e = cc
-other-refusal K.Sequence arg e = cc
-other-refusal K.Map arg e = cc
-other-refusal K.Symbol arg e = cc
-other-refusal K.Bytes arg e = cc
+other-refusal : (kind : Kind) (arg : ℕ) → unknown kind arg ≡ R.TooManyBytesRead → ⊥
+other-refusal K.Special arg e = false≢true cc
+other-refusal K.Int arg e = false≢true cc
+other-refusal K.UInt arg e = false≢true cc
+other-refusal K.Float arg e = false≢true cc
+other-refusal K.Sequence arg e = false≢true cc
+other-refusal K.Map arg e = false≢true cc
+other-refusal K.Symbol arg e = false≢true cc
+other-refusal K.Bytes arg e = false≢true cc
 
-spoilt-other : (l : List ℕ) (why : Refusal) → Spoilt l why → why ≡ R.TooManyBytesRead → _≡_ {A = ℕ} 0 1
-spoilt-other l why (cut-header h) e = cc
+spoilt-other : (l : List ℕ) (why : Refusal) → Spoilt l why → why ≡ R.TooManyBytesRead → ⊥
+spoilt-other l why (cut-header h) e = false≢true cc
 spoilt-other l why (not-known h k) e = other-refusal (headerKind l) (headerArgument l) e
-spoilt-other l why (cut-body h k m) e = cc
+spoilt-other l why (cut-body h k m) e = false≢true cc
 
-impossible : {X : Type 0} → _≡_ {A = ℕ} 0 1 → X
-impossible z = absurd (no z)
-  where
-    no : _≡_ {A = ℕ} 0 1 → ⊥
-    no z = omega arith
-
-never-five-at : (s : List ℕ) (place : Place) (t : Bool) → ltb mostBytes (length s) ≡ t → tallyAll s ≡ TA.Stopped place R.TooManyBytesRead → _≡_ {A = ℕ} 0 1
-never-five-at s place true h e = let x : TA.Stopped (record { 0 = 0 }) R.TooLong ≡ TA.Stopped place R.TooManyBytesRead = rw h at e in cc
+never-five-at : (s : List ℕ) (place : Place) (t : Bool) → ltb mostBytes (length s) ≡ t → tallyAll s ≡ TA.Stopped place R.TooManyBytesRead → ⊥
+never-five-at s place true h e = let x : TA.Stopped (record { 0 = 0 }) R.TooLong ≡ TA.Stopped place R.TooManyBytesRead = rw h at e in false≢true cc
 never-five-at s place false h e =
     let short = ltb-false mostBytes (length s) h in
     ⊎-elim
@@ -425,14 +419,14 @@ never-five-at s place false h e =
     (λ b. spoilt-other (b .rest) (b .why) (b .spoilt) (same s (record { 0 = length (b .front-bytes) }) place (b .why) (tally-broken s b short) e))
     (judged s)
   where
-    differ : (s : List ℕ) (atoms : List (List ℕ)) (place : Place) → tallyAll s ≡ TA.Done (priced atoms) → tallyAll s ≡ TA.Stopped place R.TooManyBytesRead → _≡_ {A = ℕ} 0 1
-    differ s atoms place p q = let x = sym p ∙ q in cc
+    differ : (s : List ℕ) (atoms : List (List ℕ)) (place : Place) → tallyAll s ≡ TA.Done (priced atoms) → tallyAll s ≡ TA.Stopped place R.TooManyBytesRead → ⊥
+    differ s atoms place p q = let x = sym p ∙ q in false≢true cc
 
     same : (s : List ℕ) (at place : Place) (why : Refusal) → tallyAll s ≡ TA.Stopped at why → tallyAll s ≡ TA.Stopped place R.TooManyBytesRead → why ≡ R.TooManyBytesRead
     same s at place why p q = let x = sym p ∙ q in cc
 
 pub never-five : (s : List ℕ) (place : Place) → tallyAll s ≡ TA.Stopped place R.TooManyBytesRead → ⊥
-never-five s place e = let z = never-five-at s place (ltb mostBytes (length s)) refl e in omega arith
+never-five s place e = never-five-at s place (ltb mostBytes (length s)) refl e
 
 -- THE RUN AND THE TALLY AGREE: a run with at least the charge that the tally answers reads as many atoms, and leaves the rest
 agree-made : (s : List ℕ) (atoms : List (List ℕ)) (t : Tallied) (budget : ℕ) → Atoms s atoms → priced atoms ≡ t → t .charge ≤ budget → runAll s (record { 0 = budget }) ≡ RN.Done (record { 0 = length s }) (record { 0 = budget - t .charge }) (t .atoms)
@@ -444,19 +438,19 @@ agree-made s atoms t budget w e h =
     ∙ ap (λ (x : ℕ). RN.Done (record { 0 = length s }) (record { 0 = budget - t .charge }) x) n
 
 agree-at : (s : List ℕ) (t : Tallied) (budget : ℕ) (l : Bool) → ltb mostBytes (length s) ≡ l → tallyAll s ≡ TA.Done t → t .charge ≤ budget → runAll s (record { 0 = budget }) ≡ RN.Done (record { 0 = length s }) (record { 0 = budget - t .charge }) (t .atoms)
-agree-at s t budget true h e c = let x : TA.Stopped (record { 0 = 0 }) R.TooLong ≡ TA.Done t = rw h at e in impossible (cc)
+agree-at s t budget true h e c = let x : TA.Stopped (record { 0 = 0 }) R.TooLong ≡ TA.Done t = rw h at e in absurd (false≢true cc)
 agree-at s t budget false h e c =
     let short = ltb-false mostBytes (length s) h in
     ⊎-elim
     (λ m. agree-made s (m .atoms) t budget (m .wholes) (same (priced (m .atoms)) t (sym (tally-priced s (m .atoms) short (m .wholes)) ∙ e)) c)
-    (λ b. impossible (differ (record { 0 = length (b .front-bytes) }) (b .why) t (sym (tally-broken s b short) ∙ e)))
+    (λ b. absurd (differ (record { 0 = length (b .front-bytes) }) (b .why) t (sym (tally-broken s b short) ∙ e)))
     (judged s)
   where
     same : (a b : Tallied) → TA.Done a ≡ TA.Done b → a ≡ b
     same a b e = cc
 
-    differ : (at : Place) (why : Refusal) (t : Tallied) → TA.Stopped at why ≡ TA.Done t → _≡_ {A = ℕ} 0 1
-    differ at why t e = cc
+    differ : (at : Place) (why : Refusal) (t : Tallied) → TA.Stopped at why ≡ TA.Done t → ⊥
+    differ at why t e = false≢true cc
 
 pub agree : (s : List ℕ) (t : Tallied) (budget : ℕ) → tallyAll s ≡ TA.Done t → t .charge ≤ budget → runAll s (record { 0 = budget }) ≡ RN.Done (record { 0 = length s }) (record { 0 = budget - t .charge }) (t .atoms)
 agree s t budget e c = agree-at s t budget (ltb mostBytes (length s)) refl e c

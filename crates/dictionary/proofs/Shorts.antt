@@ -2,7 +2,7 @@
 use mathlib.Core.Path.{_≡_, refl, _∙_, sym, ap}
 use mathlib.Core.Bool.{Bool, true, false}
 use mathlib.Core.List.{List, _∷_}
-use Prim.Native.Nat.{ℕ, suc, _+_, _-_, _*_, _/_, _%_, _^_, _≤_, _<_}
+use Prim.Native.Nat.{ℕ, suc, _+_, _-_, _/_, _%_, _≤_, _<_}
 use native.Mathlib.Omega.{arith}
 use lib.Dec.{leb, eqb}
 use lib.ListN.{length, drop, getD}
@@ -17,21 +17,10 @@ use Rattle.types.specs.declared.Skipped.the-variants as SK
 use Rattle.little.specs.Counts.{listed}
 use Rattle.integer.specs.Integers.{allowedCount}
 use Rattle.header.specs.Header.{moreFollow, headerKind, headerArgument, headerLength}
+use Rattle.header.proofs.Answers.{one-length, one-argument}
 use Rattle.dictionary.specs.Steps.{skipped, bodyPast, bodyAfter, ShortPast}
 use Rattle.dictionary.proofs.Bodies.{past-whole}
 use Rattle.dictionary.proofs.Steps.{step-body}
-
--- a header of one byte
-one-long : (b : ℕ) (rest : List ℕ) → moreFollow b ≡ false → headerLength (b ∷ rest) ≡ 1
-unfolding headerLength
-one-long b rest m = simp m
-
-its-argument : (b : ℕ) (rest : List ℕ) → moreFollow b ≡ false → headerArgument (b ∷ rest) ≡ b % 16
-unfolding headerArgument
-its-argument b rest m = rw m (low b)
-  where
-    low : (b : ℕ) → (b % 16 + 16 * 0) % 2 ^ 64 ≡ b % 16
-    low b = omega arith
 
 one-known : allowedCount 1 ≡ true
 unfolding listed
@@ -43,8 +32,8 @@ module _ (s : List ℕ) (at left : ℕ) (within : at < length s) where
   alone m =
       let b = getD s at 0 in
       let d : drop at s ≡ b ∷ drop (suc at) s = drop-cons s at 0 within in
-      let one : headerLength (drop at s) ≡ 1 = ap headerLength d ∙ one-long b (drop (suc at) s) m in
-      let arg : headerArgument (drop at s) ≡ b % 16 = ap headerArgument d ∙ its-argument b (drop (suc at) s) m in
+      let one : headerLength (drop at s) ≡ 1 = ap headerLength d ∙ one-length b (drop (suc at) s) m in
+      let arg : headerArgument (drop at s) ≡ b % 16 = ap headerArgument d ∙ one-argument b (drop (suc at) s) m in
       let kind : headerKind (drop at s) ≡ kindKnown (kindFrom (b / 32)) = ap headerKind d in
       step-body s at (omega arith) (record { 0 = left }) (omega arith)
       ∙ ap (λ (k : Kind). bodyAfter (length s) k (headerArgument (drop at s)) (at + headerLength (drop at s)) left) kind

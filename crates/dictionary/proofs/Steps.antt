@@ -1,7 +1,7 @@
 -- The step over a source: where the header is cut, and what follows it; it goes forward and stays within the source, the budget
 -- never rises, and what an atom costs is at most 4/3 of its body.
 use mathlib.Core.Path.{_≡_, refl, _∙_, sym, ap}
-use mathlib.Core.Bool.{Bool, true, false}
+use mathlib.Core.Bool.{Bool, true, false, false≢true}
 use mathlib.Core.List.{List, []}
 use Prim.Native.Nat.{ℕ, _+_, _-_, _*_, _%_, _^_, _≤_, _<_}
 use native.Mathlib.Omega.{arith}
@@ -106,11 +106,7 @@ module _ (s : List ℕ) (at : ℕ) (within : at ≤ length s) (budget : Budget) 
   forward-at : (v : Bool) → leb (at + headerLength (drop at s)) (length s) ≡ v → skipped s at budget ≡ SK.Past place rest body t → Forward s at (budget .0) (place .0) (rest .0) (body .0)
   forward-at false h e =
       let x = sym e ∙ step-cut s at within budget (leb-false (at + headerLength (drop at s)) (length s) h) in
-      let z : _≡_ {A = ℕ} 0 1 = cc in
-      absurd (no z)
-    where
-      no : _≡_ {A = ℕ} 0 1 → ⊥
-      no z = omega arith
+      absurd (false≢true cc)
   forward-at true h e =
       let l = drop at s in
       let k = leb-true (at + headerLength l) (length s) h in

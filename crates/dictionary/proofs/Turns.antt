@@ -1,10 +1,9 @@
 -- The turns of the run and of the tally, by what the step answers. The run is defined over `read_atom`: the step's answer says
 -- what that was.
 use mathlib.Core.Path.{_≡_, refl}
-use mathlib.Core.Bool.{Bool}
+use mathlib.Core.Bool.{Bool, false≢true}
 use mathlib.Core.List.{List, []}
-use Prim.Native.Nat.{ℕ, suc, _+_, _-_, _≤_, _<_}
-use native.Mathlib.Omega.{arith}
+use Prim.Native.Nat.{ℕ, suc, _+_, _≤_, _<_}
 use lib.ListN.{length}
 use borrow.Author.Tests.{lt-ltb, le-ltb}
 use Rattle.types.specs.declared.Way.the-variants as W
@@ -24,24 +23,18 @@ use Rattle.atom.specs.Atoms.{atomRead}
 use Rattle.dictionary.specs.Steps.{forgotten, skipped}
 use Rattle.dictionary.specs.Runs.{afterAtom, runFrom, tallyFrom, added, unlimited}
 
-no : {X : Type 0} → _≡_ {A = ℕ} 0 1 → X
-no z = absurd (never z)
-  where
-    never : _≡_ {A = ℕ} 0 1 → ⊥
-    never z = omega arith
-
 -- what the forgotten value leaves of an atom's read
 module _ {X : Type 0} (on : Place → Budget → X) (stop : Place → Budget → Refusal → X) (place : Place) (rest : Budget) where
   read-past : (h : HeaderAnswer) (a : AtomAnswer) (body : Place) (t : Bool) → forgotten h a ≡ SK.Past place rest body t → afterAtom a on stop ≡ on place rest
   read-past (H.Read n k x) (A.Read p b y) body t e = cc
-  read-past (H.Read n k x) (A.Refused p b r) body t e = no (cc)
+  read-past (H.Read n k x) (A.Refused p b r) body t e = absurd (false≢true cc)
   read-past (H.Refused n q) (A.Read p b y) body t e = cc
-  read-past (H.Refused n q) (A.Refused p b r) body t e = no (cc)
+  read-past (H.Refused n q) (A.Refused p b r) body t e = absurd (false≢true cc)
 
   read-refused : (h : HeaderAnswer) (a : AtomAnswer) (why : Refusal) → forgotten h a ≡ SK.Refused place rest why → afterAtom a on stop ≡ stop place rest why
-  read-refused (H.Read n k x) (A.Read p b y) why e = no (cc)
+  read-refused (H.Read n k x) (A.Read p b y) why e = absurd (false≢true cc)
   read-refused (H.Read n k x) (A.Refused p b r) why e = cc
-  read-refused (H.Refused n q) (A.Read p b y) why e = no (cc)
+  read-refused (H.Refused n q) (A.Read p b y) why e = absurd (false≢true cc)
   read-refused (H.Refused n q) (A.Refused p b r) why e = cc
 
   pub atom-past : (s : List ℕ) (at : ℕ) (budget : Budget) (body : Place) (t : Bool) → skipped s at budget ≡ SK.Past place rest body t → afterAtom (atomRead W.ExactLent s at budget []) on stop ≡ on place rest

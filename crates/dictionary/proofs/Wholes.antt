@@ -131,6 +131,13 @@ past-both : (s at h b : ℕ) → at ≤ s → s - at < h + b → s < at + h + b
 past-both s at h b p k = omega arith
 
 module _ (s : List ℕ) (at : ℕ) (within : at ≤ length s) where
+  -- a header that is whole: the step is what the body does
+  body-at : {t : Bool} (l : List ℕ) → drop at s ≡ l → headerLength l ≤ length l → length l ≡ length s - at → known (headerKind l) (headerArgument l) ≡ t → skipped s at (record { 0 = unlimited }) ≡ bodyPast (length s) (at + headerLength l) unlimited (isString (headerKind l)) (bodyBytes l) (price l) t (unknown (headerKind l) (headerArgument l))
+  body-at l here h n k =
+      step-body s at within (record { 0 = unlimited }) (room-of (length s) at (headerLength (drop at s)) within (rw (← n, here) h))
+      ∙ ap (λ (x : List ℕ). bodyAfter (length s) (headerKind x) (headerArgument x) (at + headerLength x) unlimited) here
+      ∙ ap (λ (t : Bool). bodyPast (length s) (at + headerLength l) unlimited (isString (headerKind l)) (bodyBytes l) (price l) t (unknown (headerKind l) (headerArgument l))) k
+
   spoilt-at : (l : List ℕ) (why : Refusal) → drop at s ≡ l → Spoilt l why → length l ≡ length s - at → Refuses s at why
   spoilt-at l why here (cut-header h) n =
       record {
@@ -143,9 +150,7 @@ module _ (s : List ℕ) (at : ℕ) (within : at ≤ length s) where
         place = record { 0 = at + headerLength l };
         left = record { 0 = unlimited - price l };
         refused =
-            step-body s at within (record { 0 = unlimited }) (room-of (length s) at (headerLength (drop at s)) within (rw (← n, here) h))
-            ∙ ap (λ (x : List ℕ). bodyAfter (length s) (headerKind x) (headerArgument x) (at + headerLength x) unlimited) here
-            ∙ ap (λ (t : Bool). bodyPast (length s) (at + headerLength l) unlimited (isString (headerKind l)) (bodyBytes l) (price l) t (unknown (headerKind l) (headerArgument l))) k
+            body-at l here h n k
             ∙ past-unknown (length s) (at + headerLength l) unlimited (isString (headerKind l)) (bodyBytes l) (price l) (unknown (headerKind l) (headerArgument l)) (price-word l);
       }
   spoilt-at l why here (cut-body h k m) n =
@@ -153,9 +158,7 @@ module _ (s : List ℕ) (at : ℕ) (within : at ≤ length s) where
         place = record { 0 = length s };
         left = record { 0 = unlimited - price l };
         refused =
-            step-body s at within (record { 0 = unlimited }) (room-of (length s) at (headerLength (drop at s)) within (rw (← n, here) h))
-            ∙ ap (λ (x : List ℕ). bodyAfter (length s) (headerKind x) (headerArgument x) (at + headerLength x) unlimited) here
-            ∙ ap (λ (t : Bool). bodyPast (length s) (at + headerLength l) unlimited (isString (headerKind l)) (bodyBytes l) (price l) t (unknown (headerKind l) (headerArgument l))) k
+            body-at l here h n k
             ∙ past-eof (length s) (at + headerLength l) unlimited (isString (headerKind l)) (bodyBytes l) (price l) (unknown (headerKind l) (headerArgument l)) (price-word l) (past-both (length s) at (headerLength l) (bodyBytes l) within (rw (← n) m));
       }
 

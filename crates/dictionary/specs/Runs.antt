@@ -55,7 +55,8 @@ afterStep (SK.Refused place rest r) on stop = stop r
 abbrev pub tallied : ℕ → ℕ → ℕ → ℕ → Tallied
 tallied atoms body charge letters = record { atoms = atoms; body = record { 0 = body }; charge = charge; letters = letters }
 
--- an atom more: its body bytes, what it took of the budget, and the letters of its string
+-- an atom more: its body bytes, what it took of the budget, and the letters of its string; that the second sums to document
+-- 01's charges, over a definition that knows no reader, is `Price.tally-priced`
 abbrev pub added : List ℕ → Tallied → ℕ → ℕ → ℕ → Bool → Tallied
 added s t place rest body string =
     tallied (t .atoms + 1) (t .body .0 + (place - body)) (t .charge + (unlimited - rest))

@@ -1,6 +1,6 @@
 -- What the logic's comparisons say of meanings: a float between two powers of two, and two floats that are equal.
 use mathlib.Core.Path.{_≡_, refl, sym, ap, _∙_, subst}
-use mathlib.Core.Bool.{Bool, true, false, _&&_, _||_, Bool·beq}
+use mathlib.Core.Bool.{Bool, true, false, _&&_, _||_, Bool·beq, false≢true, true≢false}
 use Prim.Native.Nat.{ℕ, suc, _+_, _-_, _*_, _^_, _≤_, _<_}
 use native.Mathlib.Nat.{one-mul, le-of-lt, le-refl}
 use native.Mathlib.Omega.{arith}
@@ -34,12 +34,6 @@ at-most′ a b true u p q = simp (p, le-leb a b (le-of-lt (ltb-true a b p)))
 at-most′ a b false true p q = simp (p, q, le-leb a b (subst (λ (x : ℕ). a ≤ x) (sym (eqb-true b a q)) (le-refl a)))
 at-most′ a b false false p q = simp (p, q, lt-leb a b (strict′ a b (ltb-false a b p) (eqb-false b a q)))
 
-no : false ≡ true → ⊥
-no h = let z : _≡_ {A = ℕ} 0 1 = cc in omega arith
-
-no′ : true ≡ false → ⊥
-no′ h = let z : _≡_ {A = ℕ} 0 1 = cc in omega arith
-
 some : (a b : ℕ) → 0 < a → 0 < 1 * a + b
 some a b h = omega arith
 
@@ -63,7 +57,7 @@ module _ (j : ℕ) (J : suc j ≤ 1074) where
   unfolding Ieee.le Ieee.lt Ieee.eq floatMeaning
   both nan d h = refl
   both (inf true) d h = refl
-  both (inf false) d h = absurd (no h)
+  both (inf false) d h = absurd (false≢true h)
   both (fin true m e) d h = test-is′ m e d
   both (fin false m e) d h = rw (lt-ltb 0 (1 * down e + m * up e * 2 ^ suc j) (some (down e) (m * up e * 2 ^ suc j) (down-pos e))) (sym h ∙ test-is m e d)
 
@@ -71,7 +65,7 @@ module _ (j : ℕ) (J : suc j ≤ 1074) where
   unfolding Ieee.le Ieee.lt Ieee.eq floatMeaning
   neither nan d h = refl
   neither (inf s) d h = refl
-  neither (fin true m e) d h = absurd (no′ (rw (lt-ltb 0 (m * up e * 2 ^ suc j + 1 * down e) (some′ (down e) (m * up e * 2 ^ suc j) (down-pos e))) at h))
+  neither (fin true m e) d h = absurd (true≢false (rw (lt-ltb 0 (m * up e * 2 ^ suc j + 1 * down e) (some′ (down e) (m * up e * 2 ^ suc j) (down-pos e))) at h))
   neither (fin false m e) d h = sym h ∙ test-is m e d
 
 -- ---- two floats

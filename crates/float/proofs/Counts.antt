@@ -1,6 +1,6 @@
 -- The three counts of a float, and the float of each.
 use mathlib.Core.Path.{_≡_, refl, ap}
-use mathlib.Core.Bool.{Bool, true, false}
+use mathlib.Core.Bool.{Bool, true, false, false≢true}
 use Prim.Native.Nat.{ℕ, _≤_, _<_, _^_}
 use native.Mathlib.Omega.{arith}
 use lib.Dec.{eqb}
@@ -18,14 +18,11 @@ pub data Allowed (count : ℕ) : Type 0 where
   four : count ≡ 4 → Allowed count
   eight : count ≡ 8 → Allowed count
 
-no : false ≡ true → ⊥
-no h = let z : _≡_ {A = ℕ} 0 1 = cc in omega arith
-
 listed-case : (c : ℕ) (a b d : Bool) → eqb c 2 ≡ a → eqb c 4 ≡ b → eqb c 8 ≡ d → pick a true (pick b true (pick d true false)) ≡ true → Allowed c
 listed-case c true b d p q r h = two (eqb-true c 2 p)
 listed-case c false true d p q r h = four (eqb-true c 4 q)
 listed-case c false false true p q r h = eight (eqb-true c 8 r)
-listed-case c false false false p q r h = absurd (no h)
+listed-case c false false false p q r h = absurd (false≢true h)
 
 pub allowed-is : (c : ℕ) → allowedFloat c ≡ true → Allowed c
 unfolding listed

@@ -11,10 +11,10 @@ use Rattle.binary.specs.declared.Narrowed32 as N32
 use Rattle.binary.specs.Formats.{Layout, single, double, signWeight, Meaning, finite, infinite, nan, meaning}
 use Rattle.binary.specs.Conversions.{exact, narrowed, narrowedMeaning, answer32}
 use Rattle.binary.specs.Floats.{floatMeaning, plain}
+use Rattle.binary.proofs.Laws.{exact32, lost32}
 use Rattle.binary.proofs.Narrowing.{narrowed-by}
 use Rattle.binary.proofs.Values.{toBits-means, narrowed-value}
 use Rattle.float.specs.Values.{ifEqual}
-use Rattle.float.proofs.Writes.{is-exact32, is-lost32}
 
 -- the sign and the payload of a NaN say nothing
 plain-narrowed : (to : Layout) (m : Meaning) → narrowedMeaning to (plain m) ≡ narrowedMeaning to m
@@ -35,9 +35,9 @@ module _ (x : Float) (F : T (fits binary64 x)) where
   module _ (b : ℕ) (r : N32.Narrowed32) (e : b ≡ toBits binary64 x) (a : r ≡ answer32 (narrowed double single b)) where
     pub narrow-taken : (q : ℕ) (v : Float) → r ≡ N32.the-variants.Pattern q → v ≡ ofBits binary32 q → AsF32.Value v ≡ ifEqual x (narrowedMeaning single (floatMeaning x))
     narrow-taken q v h w =
-        let n : narrowed double single b ≡ exact q = is-exact32 (narrowed double single b) q (sym a ∙ h) in
+        let n : narrowed double single b ≡ exact q = exact32 (narrowed double single b) q (sym a ∙ h) in
         ap AsF32.Value (w ∙ narrowed-value b q (own b e) n ∙ ap (ofBits binary64) e ∙ ofBits-toBits binary64 x F)
         ∙ ap (ifEqual x) (sym n ∙ ap (narrowed double single) e ∙ narrowed-means)
 
     pub narrow-lost : r ≡ N32.the-variants.None → AsF32.Refused R.ImpreciseCastWouldLoseData ≡ ifEqual x (narrowedMeaning single (floatMeaning x))
-    narrow-lost h = ap (ifEqual x) (sym (is-lost32 (narrowed double single b) (sym a ∙ h)) ∙ ap (narrowed double single) e ∙ narrowed-means)
+    narrow-lost h = ap (ifEqual x) (sym (lost32 (narrowed double single b) (sym a ∙ h)) ∙ ap (narrowed double single) e ∙ narrowed-means)

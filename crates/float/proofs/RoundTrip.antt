@@ -1,15 +1,14 @@
 -- What the float writers write reads back, with anything before and after, under every way: the header as kind Float and its
 -- count less 1, and then the float, of the same value, or for a NaN with the same bits.
 use mathlib.Core.Path.{_≡_, refl, sym, ap, _∙_, subst}
-use mathlib.Core.List.{List, [], _∷_, _++_, append-assoc}
-use Prim.Native.Nat.{ℕ, suc, _+_, _-_, _*_, _^_, _≤_, _<_}
+use mathlib.Core.List.{List, [], _++_, append-assoc}
+use Prim.Native.Nat.{ℕ, suc, _+_, _-_, _^_, _≤_, _<_}
 use native.Mathlib.Nat.{mod-eq-of-lt}
 use native.Mathlib.Omega.{arith}
 use lib.Dec.{T}
 use lib.ListN.{length, length-append}
 use lib.Ieee.{binary32, binary64, fits, toBits}
 use lib.Ieee.Bits.{ofBits-toBits, toBits-lt}
-use Rattle.types.specs.Kinds.{kindCode}
 use Rattle.types.specs.declared.Way.{Way}
 use Rattle.types.specs.declared.Kind.the-variants as K
 use Rattle.types.specs.declared.Float.{Float}
@@ -29,37 +28,34 @@ use Rattle.float.proofs.Answers.{body-whole, from-body}
 use Rattle.float.proofs.Stored.{Stored, value-four, value-eight, stored-single, stored-double}
 
 -- the header of a float of an allowed count is one byte
-pub float-headed : (c b : ℕ) → Allowed c → floatBytes c b ≡ headerBytes K.Float (c - 1) ++ toLE c b
-unfolding floatBytes headerBytes
-float-headed c b (two e) = rw e refl
-float-headed c b (four e) = rw e refl
-float-headed c b (eight e) = rw e refl
-
 header-one : (c : ℕ) → Allowed c → (length (headerBytes K.Float (c - 1)) ≡ 1) × (c - 1 < 2 ^ 64)
 unfolding headerBytes
 header-one c (two e) = rw e (refl, omega arith)
 header-one c (four e) = rw e (refl, omega arith)
 header-one c (eight e) = rw e (refl, omega arith)
 
-pub bytes-length : (c b : ℕ) → length (floatBytes c b) ≡ suc c
+pub bytes-length : (c b : ℕ) → Allowed c → length (floatBytes c b) ≡ suc c
 unfolding floatBytes
-bytes-length c b = ap suc (to-length c b)
+bytes-length c b a = let h = header-one c a .0 in let l = length-append (headerBytes K.Float (c - 1)) (toLE c b) in let t = to-length c b in omega arith
 
 -- the header of what stands in front of anything
 pub head-back : (way : Way) (c b : ℕ) (before after : List ℕ) → Allowed c
     → headerFrom way (before ++ (floatBytes c b ++ after)) (length before) ≡ H.Read (record { 0 = length before + 1 }) K.Float (c - 1)
+unfolding floatBytes
 head-back way c b before after a =
     let h = header-one c a in
-    ap (λ (l : List ℕ). headerFrom way (before ++ l) (length before)) (ap (λ (l : List ℕ). l ++ after) (float-headed c b a) ∙ append-assoc (headerBytes K.Float (c - 1)) (toLE c b) after)
+    ap (λ (l : List ℕ). headerFrom way (before ++ l) (length before)) (append-assoc (headerBytes K.Float (c - 1)) (toLE c b) after)
     ∙ header-back way K.Float (c - 1) before (toLE c b ++ after) (h .1)
     ∙ ap (λ (n : ℕ). H.Read (record { 0 = length before + n }) K.Float (c - 1)) (h .0)
 
 -- its number
-number-back : (c b : ℕ) (before after : List ℕ) → b < 256 ^ c → numberAt c (before ++ (floatBytes c b ++ after)) (length before + 1) ≡ b
+number-back : (c b : ℕ) (before after : List ℕ) → Allowed c → b < 256 ^ c → numberAt c (before ++ (floatBytes c b ++ after)) (length before + 1) ≡ b
 unfolding floatBytes
-number-back c b before after h =
-    let first : List ℕ = (kindCode K.Float * 32 + (c - 1)) ∷ [] in
-    number-reads c b (before ++ (floatBytes c b ++ after)) (length before + 1) (before ++ first) after (sym (append-assoc before first (toLE c b ++ after))) (sym (length-append before first))
+number-back c b before after a h =
+    let first : List ℕ = headerBytes K.Float (c - 1) in
+    number-reads c b (before ++ (floatBytes c b ++ after)) (length before + 1) (before ++ first) after
+    (ap (λ (l : List ℕ). before ++ l) (append-assoc first (toLE c b) after) ∙ sym (append-assoc before first (toLE c b ++ after)))
+    (sym (length-append before first ∙ ap (λ (n : ℕ). length before + n) (header-one c a .0)))
     ∙ mod-eq-of-lt h
 
 inside : (n c l a : ℕ) → l ≡ suc c → n + 1 + c ≤ n + (l + a)
@@ -74,9 +70,9 @@ pub body-back : (way : Way) (c b : ℕ) (before after : List ℕ) → Allowed c 
 body-back way c b before after a h =
     let s : List ℕ = before ++ (floatBytes c b ++ after) in
     let whole : length s ≡ length before + (length (floatBytes c b) + length after) = simp length-append in
-    sym (body-whole way s (length before + 1) c b (floatOf c b) (sym (number-back c b before after h)) refl
-    (subst (λ (n : ℕ). length before + 1 + c ≤ n) (sym whole) (inside (length before) c (length (floatBytes c b)) (length after) (bytes-length c b))))
-    ∙ ap (λ (n : ℕ). FA.Read (record { 0 = n }) (floatOf c b) b) (past (length before) c (length (floatBytes c b)) (bytes-length c b))
+    sym (body-whole way s (length before + 1) c b (floatOf c b) (sym (number-back c b before after a h)) refl
+    (subst (λ (n : ℕ). length before + 1 + c ≤ n) (sym whole) (inside (length before) c (length (floatBytes c b)) (length after) (bytes-length c b a))))
+    ∙ ap (λ (n : ℕ). FA.Read (record { 0 = n }) (floatOf c b) b) (past (length before) c (length (floatBytes c b)) (bytes-length c b a))
 
 pub from-back : (way : Way) (c b : ℕ) (before after : List ℕ) → Allowed c → b < 256 ^ c
     → floatFrom way (before ++ (floatBytes c b ++ after)) (length before + 1) K.Float c ≡ FA.Read (record { 0 = length before + length (floatBytes c b) }) (floatOf c b) b

@@ -1,7 +1,7 @@
 -- What the writers store for a pattern: the same value, in the fewest bytes; for a NaN the same bits at the same width. Over
 -- every count: a writer of a width is one case. Rests on the laws of narrowing and widening.
 use mathlib.Core.Path.{_≡_, refl, sym, ap, _∙_, subst}
-use mathlib.Core.Bool.{Bool, true}
+use mathlib.Core.Bool.{Bool, true, false≢true}
 use mathlib.Core.List.{List}
 use Prim.Native.Nat.{ℕ, _*_, _^_, _≤_, _<_}
 use native.Mathlib.Omega.{arith}
@@ -75,18 +75,22 @@ least c (two e) = omega arith
 least c (four e) = omega arith
 least c (eight e) = omega arith
 
-pub stored-half : (b : ℕ) → b < 256 ^ 2 → Stored 2 b (floatBytes 2 b)
-stored-half b h = record {
-  count = 2;
+-- a pattern that is stored at its own width, where no narrower one holds it
+stored-own : (own b : ℕ) (bytes : List ℕ) → Allowed own → b < 256 ^ own → bytes ≡ floatBytes own b → ((c q : ℕ) → Allowed c → q < 256 ^ c → Number (meaning (layoutAt own) b) → meaning (layoutAt c) q ≡ meaning (layoutAt own) b → own ≤ c) → Stored own b bytes
+stored-own own b bytes a h e f = record {
+  count = own;
   stored = b;
-  its-bytes = refl;
-  its-count = is-allowed 2 (two refl);
+  its-bytes = e;
+  its-count = is-allowed own a;
   its-room = h;
   value = refl;
   number = λ n. refl;
   nan-kept = λ s t e. (refl, refl);
-  fewest = λ c q a r n e. least c a;
+  fewest = f;
 }
+
+pub stored-half : (b : ℕ) → b < 256 ^ 2 → Stored 2 b (floatBytes 2 b)
+stored-half b h = stored-own 2 b (floatBytes 2 b) (two refl) h refl (λ c q a r n e. least c a)
 
 at-count : (c d q : ℕ) → c ≡ d → q < 256 ^ c → q < 256 ^ d
 at-count c d q e h = rw e at h
@@ -99,7 +103,7 @@ number-of m n e k = subst Number (sym e) k
 
 -- a NaN narrows to nothing
 nan-lost : (from to : Layout) (b q : ℕ) (s : Bool) (t : ℕ) → narrowed from to b ≡ exact q → meaning from b ≡ nan s t → ⊥
-nan-lost from to b q s t h e = let l : narrowed from to b ≡ lost = narrowed-nan from to b s t e in let z : _≡_ {A = ℕ} 0 1 = cc in omega arith
+nan-lost from to b q s t h e = let l : narrowed from to b ≡ lost = narrowed-nan from to b s t e in false≢true cc
 
 -- ---- a binary32 pattern
 
@@ -125,17 +129,7 @@ module _ (b : ℕ) (B : b < 256 ^ 4) where
   single-fewest h c q (eight e) r n m = omega arith
 
   single-as-single : narrowed single half b ≡ lost → Stored 4 b (f32Bytes b)
-  single-as-single h = record {
-    count = 4;
-    stored = b;
-    its-bytes = sym (f32-own b h);
-    its-count = is-allowed 4 (four refl);
-    its-room = B;
-    value = refl;
-    number = λ n. refl;
-    nan-kept = λ s t e. (refl, refl);
-    fewest = single-fewest h;
-  }
+  single-as-single h = stored-own 4 b (f32Bytes b) (four refl) B (sym (f32-own b h)) (single-fewest h)
 
   single-by : (n : Narrowed) → narrowed single half b ≡ n → Stored 4 b (f32Bytes b)
   single-by (exact q) h = single-as-half q h
@@ -173,17 +167,7 @@ module _ (b : ℕ) (B : b < 256 ^ 8) where
   double-fewest h c q (eight e) r n m = omega arith
 
   double-as-double : narrowed double single b ≡ lost → Stored 8 b (f64Bytes b)
-  double-as-double h = record {
-    count = 8;
-    stored = b;
-    its-bytes = sym (f64-own b h);
-    its-count = is-allowed 8 (eight refl);
-    its-room = B;
-    value = refl;
-    number = λ n. refl;
-    nan-kept = λ s t e. (refl, refl);
-    fewest = double-fewest h;
-  }
+  double-as-double h = stored-own 8 b (f64Bytes b) (eight refl) B (sym (f64-own b h)) (double-fewest h)
 
   double-by : (n : Narrowed) → narrowed double single b ≡ n → Stored 8 b (f64Bytes b)
   double-by (exact q) h = double-as-single q h (stored-single q (narrowed-sound double single b q h .0))

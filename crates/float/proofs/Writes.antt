@@ -1,39 +1,15 @@
 -- What the writers write, by what the narrowing answered.
-use mathlib.Core.Path.{_≡_, refl, sym, ap, _∙_}
-use mathlib.Core.List.{List}
+use mathlib.Core.Path.{_≡_, sym, ap, _∙_}
 use Prim.Native.Nat.{ℕ}
-use native.Mathlib.Omega.{arith}
 use lib.Ieee as Ieee
 use Rattle.types.specs.declared.Float.{Float}
 use Rattle.types.specs.declared.Float.the-variants as F
-use Rattle.types.specs.declared.Written.{Written}
-use Rattle.lent.specs.Lent.{writtenAnswer, writtenContent}
 use Rattle.binary.specs.declared.Narrowed16 as N16
 use Rattle.binary.specs.declared.Narrowed32 as N32
 use Rattle.binary.specs.Formats.{half, single, double}
 use Rattle.binary.specs.Conversions.{Narrowed, exact, lost, narrowed, answer16, answer32}
+use Rattle.binary.proofs.Laws.{exact16, lost16, exact32, lost32}
 use Rattle.float.specs.Bytes.{floatBytes, narrowest, f32Bytes, f64Bytes, valueBytes}
-
--- a write of equal bytes is the same write
-pub same-write : (a b old new : List ℕ) (r : Written) → a ≡ b → (r ≡ writtenAnswer a old) × (new ≡ writtenContent a old) → (r ≡ writtenAnswer b old) × (new ≡ writtenContent b old)
-same-write a b old new r e p = (p .0 ∙ ap (λ (l : List ℕ). writtenAnswer l old) e, p .1 ∙ ap (λ (l : List ℕ). writtenContent l old) e)
-
--- the narrowing behind the code's answer
-is-exact16 : (n : Narrowed) (q : ℕ) → answer16 n ≡ N16.the-variants.Pattern q → n ≡ exact q
-is-exact16 (exact p) q e = let h : p ≡ q = cc in ap exact h
-is-exact16 lost q e = absurd (let z : _≡_ {A = ℕ} 0 1 = cc in omega arith)
-
-is-lost16 : (n : Narrowed) → answer16 n ≡ N16.the-variants.None → n ≡ lost
-is-lost16 (exact p) e = absurd (let z : _≡_ {A = ℕ} 0 1 = cc in omega arith)
-is-lost16 lost e = refl
-
-pub is-exact32 : (n : Narrowed) (q : ℕ) → answer32 n ≡ N32.the-variants.Pattern q → n ≡ exact q
-is-exact32 (exact p) q e = let h : p ≡ q = cc in ap exact h
-is-exact32 lost q e = absurd (let z : _≡_ {A = ℕ} 0 1 = cc in omega arith)
-
-pub is-lost32 : (n : Narrowed) → answer32 n ≡ N32.the-variants.None → n ≡ lost
-is-lost32 (exact p) e = absurd (let z : _≡_ {A = ℕ} 0 1 = cc in omega arith)
-is-lost32 lost e = refl
 
 -- the bytes of each form
 pub f32-short : (b q : ℕ) → narrowed single half b ≡ exact q → floatBytes 2 q ≡ f32Bytes b
@@ -55,17 +31,17 @@ f64-own b h = ap (λ (n : Narrowed). narrowest n f32Bytes (floatBytes 8 b)) (sym
 -- the same, from what the code was answered
 module _ (b : ℕ) (r : N16.Narrowed16) (e : r ≡ answer16 (narrowed single half b)) where
   pub half-taken : (q : ℕ) → r ≡ N16.the-variants.Pattern q → floatBytes 2 q ≡ f32Bytes b
-  half-taken q h = f32-short b q (is-exact16 (narrowed single half b) q (sym e ∙ h))
+  half-taken q h = f32-short b q (exact16 (narrowed single half b) q (sym e ∙ h))
 
   pub half-lost : r ≡ N16.the-variants.None → floatBytes 4 b ≡ f32Bytes b
-  half-lost h = f32-own b (is-lost16 (narrowed single half b) (sym e ∙ h))
+  half-lost h = f32-own b (lost16 (narrowed single half b) (sym e ∙ h))
 
 module _ (b : ℕ) (r : N32.Narrowed32) (e : r ≡ answer32 (narrowed double single b)) where
   pub single-taken : (q : ℕ) → r ≡ N32.the-variants.Pattern q → f32Bytes q ≡ f64Bytes b
-  single-taken q h = f64-short b q (is-exact32 (narrowed double single b) q (sym e ∙ h))
+  single-taken q h = f64-short b q (exact32 (narrowed double single b) q (sym e ∙ h))
 
   pub single-lost : r ≡ N32.the-variants.None → floatBytes 8 b ≡ f64Bytes b
-  single-lost h = f64-own b (is-lost32 (narrowed double single b) (sym e ∙ h))
+  single-lost h = f64-own b (lost32 (narrowed double single b) (sym e ∙ h))
 
 -- a value's bytes
 pub value-f32 : (v : Float) (x : Ieee.Float) → v ≡ F.F32 x → f32Bytes (Ieee.toBits Ieee.binary32 x) ≡ valueBytes v

@@ -2,22 +2,22 @@
 -- value, else 4; `write_f64` uses 2, else 4, else 8. Both zeros and both infinities take 2 bytes. A NaN is written at its
 -- own width with its own bits." `narrowed` answers the narrower pattern of the same sign and magnitude, if there is one, and
 -- none of a NaN; that these are the fewest bytes is proved in `proofs/Stored.antt`.
-use Prim.Native.Nat.{ℕ, _+_, _-_, _*_}
-use mathlib.Core.List.{List, _∷_}
+use Prim.Native.Nat.{ℕ, _-_}
+use mathlib.Core.List.{List, _++_}
 use lib.Dec.{eqb}
 use lib.Ieee.{binary32, binary64, toBits}
 use Rattle.types.specs.Choice.{pick}
-use Rattle.types.specs.Kinds.{kindCode}
 use Rattle.types.specs.declared.Kind.the-variants as K
 use Rattle.types.specs.declared.Float.{Float}
 use Rattle.types.specs.declared.Float.the-variants as F
+use Rattle.header.specs.Header.{headerBytes}
 use Rattle.little.specs.Le.{toLE}
 use Rattle.binary.specs.Formats.{half, single, double}
 use Rattle.binary.specs.Conversions.{Narrowed, exact, lost, narrowed}
 
--- a float of that many bytes that hold the bits: the header's kind and argument, count - 1, in one byte, and then the bytes
+-- a float of that many bytes that hold the bits: its header, whose argument is the count less 1, and then the bytes
 unfoldable pub floatBytes : ℕ → ℕ → List ℕ
-floatBytes count bits = (kindCode K.Float * 32 + (count - 1)) ∷ toLE count bits
+floatBytes count bits = headerBytes K.Float (count - 1) ++ toLE count bits
 
 -- the narrower form if there is one, else the wider
 abbrev pub narrowest : Narrowed → (ℕ → List ℕ) → List ℕ → List ℕ

@@ -1,6 +1,6 @@
 -- From the whole number of a pattern to the integer: what `whole_from` answers decides, and its sign and width follow.
 use mathlib.Core.Path.{_≡_, refl, sym, ap, _∙_}
-use mathlib.Core.Bool.{Bool, true, false}
+use mathlib.Core.Bool.{Bool, true, false, false≢true}
 use Prim.Native.Nat.{ℕ, _+_, _-_, _/_, _%_, _^_, _≤_, _<_}
 use native.Mathlib.Nat.{div-eq-of-lt, lt-of-lt-of-le}
 use native.Mathlib.Omega.{arith}
@@ -80,10 +80,10 @@ module _ (b small : ℕ) (some : 0 < small) where
 -- ---- the integer
 
 lost-number : (n : ℕ) → Whole.Lost ≡ Whole.Number n → ⊥
-lost-number n h = let z : _≡_ {A = ℕ} 0 1 = cc in omega arith
+lost-number n h = false≢true cc
 
 number-lost : (n : ℕ) → Whole.Number n ≡ Whole.Lost → ⊥
-number-lost n h = let z : _≡_ {A = ℕ} 0 1 = cc in omega arith
+number-lost n h = false≢true cc
 
 same-number : (a b : ℕ) → Whole.Number a ≡ Whole.Number b → a ≡ b
 same-number a b h = cc

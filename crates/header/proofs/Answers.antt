@@ -5,22 +5,21 @@ use mathlib.Core.List.{List, [], _∷_}
 use Prim.Native.Nat.{ℕ, suc, _+_, _*_, _/_, _%_, _^_, _≤_, _<_}
 use native.Mathlib.Numerals.{add-one}
 use native.Mathlib.Omega.{arith}
-use native.Mathlib.Nat.{mod-eq-of-lt}
 use lib.Seq.{drop-cons}
-use borrow.Author.Tests.{eq-eqb, ne-eqb, lt-ltb, le-ltb}
+use borrow.Author.Tests.{lt-ltb, le-ltb}
+use lib.Dec.{eqb}
 use lib.ListN.{length, drop, getD, drop-of-length-le}
 use Rattle.types.specs.Kinds.{kindCode, kindFrom, kindKnown}
 use Rattle.types.specs.Ways.{exact}
 use Rattle.types.specs.declared.Way.{Way}
 use Rattle.types.specs.declared.Kind.{Kind}
 use Rattle.types.specs.declared.Kind.the-variants as K
-use Rattle.types.specs.declared.Place.{Place}
 use Rattle.types.specs.declared.Refusal.the-variants as R
 use Rattle.types.specs.declared.HeaderAnswer.{HeaderAnswer}
 use Rattle.types.specs.declared.HeaderAnswer.the-variants as H
 use Rattle.types.specs.declared.VersionAnswer.the-variants as VA
 use Rattle.types.proofs.Ways.{up-to-within, up-to-filled, up-to-eof}
-use Rattle.header.specs.Header.{laterFrom, laterCount, laterValue, argumentFrom, headerFrom, headerKind, headerArgument, headerLength, headerBytes, laterBytes}
+use Rattle.header.specs.Header.{moreFollow, laterFrom, laterCount, laterValue, argumentFrom, headerFrom, headerKind, headerArgument, headerLength, headerBytes, laterBytes}
 use Rattle.header.specs.Signature.{versionFrom, judged, bigEndian, signatureBytes}
 
 -- the later bytes: whole, ended by the source in filled reading, and in exact reading
@@ -83,13 +82,16 @@ pub opened : (s : List ℕ) (at : ℕ) → at < length s → drop at s ≡ getD 
 opened s at h = drop-cons s at 0 h ∙ ap (λ (n : ℕ). getD s at 0 ∷ drop n s) (sym (add-one at))
 
 -- what the definitions say of them where no byte follows the first, and where more do
-pub one-length : (b : ℕ) (l : List ℕ) → b / 16 % 2 ≡ 0 → headerLength (b ∷ l) ≡ 1
+pub none-follow : (b : ℕ) → b / 16 % 2 ≡ 0 → moreFollow b ≡ false
+none-follow b e = ap (λ (n : ℕ). eqb n 1) e
+
+pub one-length : (b : ℕ) (l : List ℕ) → moreFollow b ≡ false → headerLength (b ∷ l) ≡ 1
 unfolding headerLength
 one-length b l e = simp e
 
-pub one-argument : (b : ℕ) (l : List ℕ) → b / 16 % 2 ≡ 0 → headerArgument (b ∷ l) ≡ b % 16
+pub one-argument : (b : ℕ) (l : List ℕ) → moreFollow b ≡ false → headerArgument (b ∷ l) ≡ b % 16
 unfolding headerArgument
-one-argument b l e = simp e (small b)
+one-argument b l e = rw e (small b)
   where
     small : (b : ℕ) → (b % 16 + 16 * 0) % 2 ^ 64 ≡ b % 16
     small b = omega arith
@@ -121,8 +123,8 @@ module _ (way : Way) (s : List ℕ) (at : ℕ) where
   pub header-short : at < length s → getD s at 0 / 16 % 2 ≡ 0 → H.Read (record { 0 = at + 1 }) (kindKnown (kindFrom (getD s at 0 / 32))) (getD s at 0 % 16) ≡ headerFrom way s at
   unfolding headerFrom header-found header-eof
   header-short h e =
-      let n : headerLength (drop at s) ≡ 1 = rw (opened s at h) (one-length (getD s at 0) (drop (at + 1) s) e) in
-      let a : headerArgument (drop at s) ≡ getD s at 0 % 16 = rw (opened s at h) (one-argument (getD s at 0) (drop (at + 1) s) e) in
+      let n : headerLength (drop at s) ≡ 1 = rw (opened s at h) (one-length (getD s at 0) (drop (at + 1) s) (none-follow (getD s at 0) e)) in
+      let a : headerArgument (drop at s) ≡ getD s at 0 % 16 = rw (opened s at h) (one-argument (getD s at 0) (drop (at + 1) s) (none-follow (getD s at 0) e)) in
       let k : headerKind (drop at s) ≡ kindKnown (kindFrom (getD s at 0 / 32)) = rw (opened s at h) refl in
       sym (up-to-within way (length s) (at + headerLength (drop at s)) header-found header-eof (omega arith) ∙ rw (n, a, k) refl)
 

@@ -2,7 +2,7 @@
 -- form of the later bytes reads alike; and the same for the signature.
 use mathlib.Core.Path.{_≡_, refl, _∙_, sym, ap}
 use mathlib.Core.Bool.{Bool, true, false, _&&_}
-use mathlib.Core.List.{List, [], _∷_, _++_, append-assoc}
+use mathlib.Core.List.{List, [], _∷_, _++_}
 use Prim.Native.Nat.{ℕ, zero, suc, _+_, _-_, _*_, _/_, _%_, _^_, _≤_, _<_}
 use native.Mathlib.Nat.{pow-suc, mod-eq-of-lt, mul-assoc}
 use native.Mathlib.Omega.{arith}
@@ -15,7 +15,6 @@ use Rattle.types.specs.declared.Way.{Way}
 use Rattle.types.specs.declared.Kind.{Kind}
 use Rattle.types.specs.declared.Kind.the-variants as K
 use Rattle.types.specs.declared.Refusal.the-variants as R
-use Rattle.types.specs.declared.HeaderAnswer.{HeaderAnswer}
 use Rattle.types.specs.declared.HeaderAnswer.the-variants as H
 use Rattle.types.specs.declared.VersionAnswer.the-variants as VA
 use Rattle.types.proofs.Ways.{up-to-within}
@@ -23,7 +22,7 @@ use Rattle.header.specs.Header.{laterCount, laterValue, laterBytes, head
 use Rattle.header.specs.Signature.{versionFrom, signatureBytes, bigEndian, everyBit, judged}
 use Rattle.header.proofs.Later.{count-more, count-last, value-more, value-last}
 use Rattle.header.proofs.Groups.{last-group, group, more}
-use Rattle.header.proofs.Answers.{bytes-one, bytes-more, pot, one-length, one-argument, more-length, more-argument}
+use Rattle.header.proofs.Answers.{bytes-one, bytes-more, pot, none-follow, one-length, one-argument, more-length, more-argument}
 
 top : (c x : ℕ) → x < 32 → (c * 32 + x) / 32 ≡ c
 top c x h = omega arith
@@ -129,7 +128,7 @@ back-one kind arg after h =
     let b : ℕ = kindCode kind * 32 + arg in
     let z : b / 16 % 2 ≡ 0 = omega arith in
     let a : b % 16 ≡ arg = omega arith in
-    record { its-kind = kind-back kind arg (omega arith); its-argument = one-argument b after z ∙ a; its-length = one-length b after z }
+    record { its-kind = kind-back kind arg (omega arith); its-argument = one-argument b after (none-follow b z) ∙ a; its-length = one-length b after (none-follow b z) }
 
 back-more : (kind : Kind) (arg : ℕ) (after : List ℕ) → 16 ≤ arg → arg < 2 ^ 64 → Back kind arg ((kindCode kind * 32 + 16 + arg % 16) ∷ laterBytes 9 (arg / 16)) after
 back-more kind arg after h l =

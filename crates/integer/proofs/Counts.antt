@@ -1,9 +1,8 @@
 -- What holds of each of a list's numbers holds of any number that is one of them; so of every allowed count.
 use mathlib.Core.Path.{_≡_, refl, sym, subst}
-use mathlib.Core.Bool.{Bool, true, false}
+use mathlib.Core.Bool.{Bool, true, false, false≢true}
 use mathlib.Core.List.{List, [], _∷_}
 use Prim.Native.Nat.{ℕ, _<_, _≤_}
-use native.Mathlib.Omega.{arith}
 use lib.Dec.{eqb, lit<, lit≤}
 use borrow.Author.Tests.{eqb-true}
 use Rattle.little.specs.Counts.{counts, listed}
@@ -14,9 +13,6 @@ abbrev pub Each : (ℕ → Type 0) → List ℕ → Type 0
 Each P [] = Unit
 Each P (d ∷ ds) = P d × Each P ds
 
-unlike : false ≡ true → ⊥
-unlike h = let z : _≡_ {A = ℕ} 0 1 = cc in omega arith
-
 each-at : (P : ℕ → Type 0) (d : ℕ) (ds : List ℕ) (n : ℕ) (t : Bool) → eqb n d ≡ t → P d → (listed n ds ≡ true → P n) → listed n (d ∷ ds) ≡ true → P n
 unfolding listed
 each-at P d ds n true e p rest h = subst P (sym (eqb-true n d e)) p
@@ -24,7 +20,7 @@ each-at P d ds n false e p rest h = rest (rw e at h)
 
 pub each : (P : ℕ → Type 0) (l : List ℕ) → Each P l → (n : ℕ) → listed n l ≡ true → P n
 unfolding listed
-each P [] h n e = absurd (unlike e)
+each P [] h n e = absurd (false≢true e)
 each P (d ∷ ds) h n e = each-at P d ds n (eqb n d) refl (h .0) (each P ds (h .1) n) e
 
 -- an allowed count is 1 to 16

@@ -1,18 +1,15 @@
 -- Where an integer's read leaves the place: it never falls and never passes the end.
-use mathlib.Core.Path.{_≡_, refl}
+use mathlib.Core.Path.{refl}
 use mathlib.Core.Bool.{Bool, true, false}
 use mathlib.Core.List.{List}
 use Prim.Native.Nat.{ℕ, _+_, _≤_}
 use native.Mathlib.Omega.{arith}
-use lib.Dec.{leb}
 use lib.ListN.{length}
-use borrow.Author.Tests.{leb-true}
 use Rattle.types.specs.Choice.{pick}
-use Rattle.types.specs.Ways.{exact}
+use Rattle.types.proofs.Ways.{up-to-between}
 use Rattle.types.specs.declared.Way.{Way}
 use Rattle.types.specs.declared.Kind.{Kind}
 use Rattle.types.specs.declared.Kind.the-variants as K
-use Rattle.types.specs.declared.Integer.{Integer}
 use Rattle.types.specs.declared.Refusal.the-variants as R
 use Rattle.types.specs.declared.IntegerAnswer.{IntegerAnswer}
 use Rattle.types.specs.declared.IntegerAnswer.the-variants as IA
@@ -28,17 +25,10 @@ integerPlace (IA.Refused p r) = p .0
 abbrev pub Between : ℕ → ℕ → IntegerAnswer → Type 0
 Between at end answer = (at ≤ integerPlace answer) × (integerPlace answer ≤ end)
 
-placed : (e n at : ℕ) (i : Integer) (t x : Bool) → leb e n ≡ t → at ≤ n → at ≤ e → Between at n (pick t (IA.Read (record { 0 = e }) i) (pick x (IA.Refused (record { 0 = n }) R.Eof) (IA.Read (record { 0 = n }) i)))
-placed e n at i true x h l m = (m, leb-true e n h)
-placed e n at i false true h l m = (l, omega arith)
-placed e n at i false false h l m = (l, omega arith)
-
-on : (at n : ℕ) → at ≤ at + n
-on at n = omega arith
-
 pub body-place : (way : Way) (s : List ℕ) (at : ℕ) (kind : Kind) (count : ℕ) → at ≤ length s → Between at (length s) (integerBody way s at kind count)
 unfolding integerBody
-body-place way s at kind count h = placed (at + count) (length s) at (integerOf kind count (numberAt count s at)) (leb (at + count) (length s)) (exact way) refl h (on at count)
+body-place way s at kind count h =
+    up-to-between way (length s) (at + count) (λ p. IA.Read (record { 0 = p }) (integerOf kind count (numberAt count s at))) (IA.Refused (record { 0 = length s }) R.Eof) integerPlace (λ p. refl) refl at h (omega arith)
 
 judged : (at end : ℕ) (six seven : IntegerAnswer) (body : IntegerAnswer) (k a : Bool) → Between at end body → Between at end six → Between at end seven → Between at end (pick k (pick a body six) seven)
 judged at end six seven body true true b s v = b

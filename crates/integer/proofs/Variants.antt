@@ -1,7 +1,7 @@
 -- The variant of each allowed count, of each sign: what the readers' arms answer. One law for all signed widths, one for
 -- all unsigned ones, and one for two words.
 use mathlib.Core.Path.{_≡_, refl, _∙_, sym, ap}
-use mathlib.Core.Bool.{Bool, true, false}
+use mathlib.Core.Bool.{Bool, true, false, false≢true}
 use mathlib.Core.List.{List, [], _∷_}
 use Prim.Native.Nat.{ℕ, _+_, _*_, _/_, _%_, _^_, _<_}
 use native.Mathlib.Omega.{arith}
@@ -121,7 +121,7 @@ NotSmaller count = (((((Unit × (count ≡ 1 → ⊥)) × (count ≡ 2 → ⊥))
 
 sixteen-at : (count : ℕ) (t : Bool) → eqb count 16 ≡ t → pick t true false ≡ true → count ≡ 16
 sixteen-at count true e h = eqb-true count 16 e
-sixteen-at count false e h = let z : _≡_ {A = ℕ} 0 1 = cc in absurd (omega arith)
+sixteen-at count false e h = absurd (false≢true cc)
 
 pub sixteen : (count : ℕ) → allowedCount count ≡ true → NotSmaller count → count ≡ 16
 unfolding listed

@@ -41,8 +41,8 @@ fn wide_at(source: &[u8], at: usize) -> Wide
     }
 }
 
-// The signed integer of an allowed count of bytes, whose room the caller judged: a helper of readers.
-pub fn int_at(source: &[u8], at: usize, count: u64) -> Integer
+// The signed integer of an allowed count of bytes, whose room the caller judged.
+fn int_at(source: &[u8], at: usize, count: u64) -> Integer
     requires { ⌜ (allowedCount count ≡ true) × (at + count ≤ length (now source)) ⌝ }
     ensures { λ r. ⌜ r ≡ intOf count (numberAt count (now (source .entry)) at) ⌝ }
 {
@@ -57,8 +57,8 @@ pub fn int_at(source: &[u8], at: usize, count: u64) -> Integer
     }
 }
 
-// The unsigned integer of an allowed count of bytes, whose room the caller judged: a helper of readers.
-pub fn uint_at(source: &[u8], at: usize, count: u64) -> Integer
+// The unsigned integer of an allowed count of bytes, whose room the caller judged.
+fn uint_at(source: &[u8], at: usize, count: u64) -> Integer
     requires { ⌜ (allowedCount count ≡ true) × (at + count ≤ length (now source)) ⌝ }
     ensures { λ r. ⌜ r ≡ uintOf count (numberAt count (now (source .entry)) at) ⌝ }
 {
@@ -84,8 +84,8 @@ fn filled_wide(source: &[u8], at: usize) -> Wide
     }
 }
 
-// The signed integer of an allowed count of bytes, those past the end zero: a helper of readers.
-pub fn filled_int(source: &[u8], at: usize, count: u64) -> Integer
+// The signed integer of an allowed count of bytes, those past the end zero.
+fn filled_int(source: &[u8], at: usize, count: u64) -> Integer
     requires { ⌜ (allowedCount count ≡ true) × (at ≤ length (now source)) ⌝ }
     ensures { λ r. ⌜ r ≡ intOf count (numberAt count (now (source .entry)) at) ⌝ }
 {
@@ -100,8 +100,8 @@ pub fn filled_int(source: &[u8], at: usize, count: u64) -> Integer
     }
 }
 
-// The unsigned integer of an allowed count of bytes, those past the end zero: a helper of readers.
-pub fn filled_uint(source: &[u8], at: usize, count: u64) -> Integer
+// The unsigned integer of an allowed count of bytes, those past the end zero.
+fn filled_uint(source: &[u8], at: usize, count: u64) -> Integer
     requires { ⌜ (allowedCount count ≡ true) × (at ≤ length (now source)) ⌝ }
     ensures { λ r. ⌜ r ≡ uintOf count (numberAt count (now (source .entry)) at) ⌝ }
 {

@@ -1,14 +1,15 @@
 -- The laws of a lent buffer that every writer cites: what is written is in front, and the rest is as it was.
-use mathlib.Core.Path.{_≡_, refl, _∙_, sym, ap}
-use mathlib.Core.List.{List, [], _∷_, _++_, append-assoc, append-nil}
+use mathlib.Core.Path.{_≡_, _∙_, ap}
+use mathlib.Core.List.{List, [], _++_, append-assoc, append-nil}
 use Prim.Native.Nat.{ℕ, suc, _+_, _-_, _≤_, _<_}
 use native.Mathlib.Numerals.{add-one}
 use native.Mathlib.Omega.{arith}
 use lib.ListN.{length, take, drop, set, getD, length-append, length-drop}
 use borrow.Author.Tests.{le-ltb, lt-ltb}
-use lib.Seq.{drop-cons, take-suc, set-at, length-take-le, length-front, take-length, take-append-seam, drop-append-seam, drop-length, drop-drop, take-all}
+use lib.Seq.{drop-cons, take-suc, set-at, length-take-le, take-length, take-append-seam, drop-append-seam, drop-length, drop-drop, take-all}
 use Rattle.lent.specs.Lent.{writtenAnswer, writtenContent}
 use Rattle.types.specs.Refusals.{noRoom}
+use Rattle.types.specs.declared.Written.{Written}
 use Rattle.types.specs.declared.Written.the-variants as W
 
 -- without room: refusal 9, and the buffer as it was
@@ -24,6 +25,10 @@ answer-room bytes old h = simp (le-ltb (length old) (length bytes) h)
 
 pub content-room : (bytes old : List ℕ) → length bytes ≤ length old → writtenContent bytes old ≡ bytes ++ drop (length bytes) old
 content-room bytes old h = simp (le-ltb (length old) (length bytes) h)
+
+-- a write of equal bytes is the same write
+pub same-write : (a b old new : List ℕ) (r : Written) → a ≡ b → (r ≡ writtenAnswer a old) × (new ≡ writtenContent a old) → (r ≡ writtenAnswer b old) × (new ≡ writtenContent b old)
+same-write a b old new r e p = (p .0 ∙ ap (λ (l : List ℕ). writtenAnswer l old) e, p .1 ∙ ap (λ (l : List ℕ). writtenContent l old) e)
 
 -- one store more of a buffer whose first i elements are those of s, and the rest as in d
 pub copy-more : (d s : List ℕ) (i : ℕ) → i < length s → length s ≤ length d → set (take i s ++ drop i d) i (getD s i 0) ≡ take (i + 1) s ++ drop (i + 1) d

@@ -1,6 +1,6 @@
 -- The first of a list that passes a test, over any list and any test: it passes, and no smaller one of the list does.
 use mathlib.Core.Path.{_≡_, refl, _∙_, sym, ap}
-use mathlib.Core.Bool.{Bool, true, false}
+use mathlib.Core.Bool.{Bool, true, false, false≢true}
 use mathlib.Core.List.{List, [], _∷_}
 use Prim.Native.Nat.{ℕ, _<_, _^_}
 use native.Mathlib.Omega.{arith}
@@ -10,9 +10,6 @@ use borrow.Author.Tests.{ltb-true, ltb-false, lt-ltb, eqb-true, eq-eqb}
 use Rattle.types.specs.Choice.{pick}
 use Rattle.little.specs.Counts.{counts, listed, holdsU, holdsS, firstThat, shortestU, shortestS}
 
-no : false ≡ true → ⊥
-no h = let z : _≡_ {A = ℕ} 0 1 = cc in omega arith
-
 -- whether each number of a list is above the one before it, and the first above m
 unfoldable pub rising : ℕ → List ℕ → Bool
 rising m [] = true
@@ -21,7 +18,7 @@ rising m (c ∷ cs) = pick (ltb m c) (rising c cs) false
 -- what a rising list says of its head, of its tail, and of each of its numbers
 pick-true : (t u : Bool) → pick t u false ≡ true → (t ≡ true) × (u ≡ true)
 pick-true true u h = (refl, h)
-pick-true false u h = absurd (no h)
+pick-true false u h = absurd (false≢true h)
 
 rising-head : (m d : ℕ) (ds : List ℕ) → rising m (d ∷ ds) ≡ true → ltb m d ≡ true
 unfolding rising
@@ -38,7 +35,7 @@ above-at m d ds c false f o ih l = let q : d < c = ih (rw f at l) in omega arith
 
 above : (m : ℕ) (l : List ℕ) (c : ℕ) → rising m l ≡ true → listed c l ≡ true → m < c
 unfolding listed
-above m [] c r l = absurd (no l)
+above m [] c r l = absurd (false≢true l)
 above m (d ∷ ds) c r l = above-at m d ds c (eqb c d) refl (ltb-true m d (rising-head m d ds r)) (above d ds c (rising-tail m d ds r)) l
 
 neither-at : (a b : ℕ) (t u : Bool) → ltb a b ≡ t → ltb b a ≡ u → (a < b → ⊥) → (b < a → ⊥) → a ≡ b
@@ -58,24 +55,24 @@ module _ (p : ℕ → Bool) where
   holds-at : (d : ℕ) (ds : List ℕ) (c : ℕ) (t u : Bool) → p d ≡ t → eqb c d ≡ u → (listed c ds ≡ true → p (firstThat p ds) ≡ true) → listed c (d ∷ ds) ≡ true → p c ≡ true → p (firstThat p (d ∷ ds)) ≡ true
   unfolding listed firstThat
   holds-at d ds c true u e f ih l h = rw e e
-  holds-at d ds c false true e f ih l h = absurd (no (sym e ∙ ap p (sym (eqb-true c d f)) ∙ h))
+  holds-at d ds c false true e f ih l h = absurd (false≢true (sym e ∙ ap p (sym (eqb-true c d f)) ∙ h))
   holds-at d ds c false false e f ih l h = rw e (ih (rw f at l))
 
   pub first-holds : (l : List ℕ) (c : ℕ) → listed c l ≡ true → p c ≡ true → p (firstThat p l) ≡ true
   unfolding listed
-  first-holds [] c l h = absurd (no l)
+  first-holds [] c l h = absurd (false≢true l)
   first-holds (d ∷ ds) c l h = holds-at d ds c (p d) (eqb c d) refl refl (λ (m : listed c ds ≡ true). first-holds ds c m h) l h
 
   -- it is one of the list, if any passes
   listed-at : (d : ℕ) (ds : List ℕ) (c : ℕ) (t u : Bool) → p d ≡ t → eqb c d ≡ u → (listed c ds ≡ true → listed (firstThat p ds) ds ≡ true) → listed c (d ∷ ds) ≡ true → p c ≡ true → listed (firstThat p (d ∷ ds)) (d ∷ ds) ≡ true
   unfolding listed firstThat
   listed-at d ds c true u e f ih l h = rw (e, eq-eqb d d refl)
-  listed-at d ds c false true e f ih l h = absurd (no (sym e ∙ ap p (sym (eqb-true c d f)) ∙ h))
+  listed-at d ds c false true e f ih l h = absurd (false≢true (sym e ∙ ap p (sym (eqb-true c d f)) ∙ h))
   listed-at d ds c false false e f ih l h = rw (e, ih (rw f at l)) (either (eqb (firstThat p ds) d))
 
   pub first-listed : (l : List ℕ) (c : ℕ) → listed c l ≡ true → p c ≡ true → listed (firstThat p l) l ≡ true
   unfolding listed
-  first-listed [] c l h = absurd (no l)
+  first-listed [] c l h = absurd (false≢true l)
   first-listed (d ∷ ds) c l h = listed-at d ds c (p d) (eqb c d) refl refl (λ (m : listed c ds ≡ true). first-listed ds c m h) l h
 
   -- none of a rising list that is smaller passes
@@ -88,7 +85,7 @@ module _ (p : ℕ → Bool) where
 
   pub first-least : (m : ℕ) (l : List ℕ) (c : ℕ) → rising m l ≡ true → listed c l ≡ true → c < firstThat p l → p c ≡ false
   unfolding listed
-  first-least m [] c r l h = absurd (no l)
+  first-least m [] c r l h = absurd (false≢true l)
   first-least m (d ∷ ds) c r l h = least-at m d ds c (p d) (eqb c d) refl refl (rising-head m d ds r) (rising-tail m d ds r) (first-least d ds c (rising-tail m d ds r)) l h
 
   -- and so it is the one that passes where no smaller one does
@@ -96,8 +93,8 @@ module _ (p : ℕ → Bool) where
   first-is m l c r k h none =
       let passes : p (firstThat p l) ≡ true = first-holds l c k h in
       let within : listed (firstThat p l) l ≡ true = first-listed l c k h in
-      let not-less : firstThat p l < c → ⊥ = λ (q : firstThat p l < c). no (sym (none (firstThat p l) within q) ∙ passes) in
-      let not-more : c < firstThat p l → ⊥ = λ (q : c < firstThat p l). no (sym (first-least m l c r k q) ∙ h) in
+      let not-less : firstThat p l < c → ⊥ = λ (q : firstThat p l < c). false≢true (sym (none (firstThat p l) within q) ∙ passes) in
+      let not-more : c < firstThat p l → ⊥ = λ (q : c < firstThat p l). false≢true (sym (first-least m l c r k q) ∙ h) in
       neither (firstThat p l) c not-less not-more
 
 -- the smallest count that holds the value: it holds it, it is a count, and no smaller count holds it

@@ -1,6 +1,6 @@
 -- Two's complement, over the byte count n and the machine's width w: a value and what n bytes hold for it are inverse.
 use mathlib.Core.Path.{_≡_, refl, _∙_, sym, ap}
-use mathlib.Core.Bool.{Bool, true, false}
+use mathlib.Core.Bool.{Bool, true, false, false≢true}
 use Prim.Native.Nat.{ℕ, zero, suc, _+_, _-_, _*_, _/_, _%_, _^_, _≤_, _<_}
 use native.Mathlib.Omega.{arith}
 use native.Mathlib.Nat.{mod-eq-of-lt, mul-comm, mul-suc, pow-suc, pow-le-pow-right, lt-of-lt-of-le}
@@ -126,21 +126,18 @@ high-half w n v h k =
     ap (toZ w) (less-one (2 ^ bits w) (256 ^ n - 1 - v)) ∙ toZ-neg w (256 ^ n - 1 - v) k ∙ sym (twos-high n v h)
 
 -- writing from a machine's width: the test `0 <= v`, the casts, the bits
-no : false ≡ true → ⊥
-no h = let z : _≡_ {A = ℕ} 0 1 = cc in omega arith
-
 pos-passes : (n : ℕ) → leb 0 n ≡ false → ⊥
 pos-passes n h = omega (arith, leb-false 0 n h)
 
 module _ (w : Width) (n : ℕ) where
   pub pos-cast : (u : Width) → 2 ^ hbits w ≤ 2 ^ bits u → (z : ℤ) → SFits w z → leZ (pos 0) (toZ w (ofZ w z)) ≡ true → T (nonNeg (toZ w (ofZ w z))) × Fits u (natAbs (toZ w (ofZ w z)))
   pos-cast u b (pos k) f h = rw (toZ-ofZ w (pos k) f) (tt, record { fits = lt-of-lt-of-le (f .sfits) b })
-  pos-cast u b (negsuc k) f h = absurd (no (rw (toZ-ofZ w (negsuc k) f) at h))
+  pos-cast u b (negsuc k) f h = absurd (false≢true (rw (toZ-ofZ w (negsuc k) f) at h))
 
   pub pos-bits : 2 ^ hbits w ≤ 256 ^ n → (z : ℤ) → SFits w z → leZ (pos 0) (toZ w (ofZ w z)) ≡ true → (natAbs (toZ w (ofZ w z)) ≡ twosBits n z) × (natAbs (toZ w (ofZ w z)) < 256 ^ n)
   unfolding twosBits
   pos-bits b (pos k) f h = rw (toZ-ofZ w (pos k) f) (refl, lt-of-lt-of-le (f .sfits) b)
-  pos-bits b (negsuc k) f h = absurd (no (rw (toZ-ofZ w (negsuc k) f) at h))
+  pos-bits b (negsuc k) f h = absurd (false≢true (rw (toZ-ofZ w (negsuc k) f) at h))
 
   twice : (b k : ℕ) → k < b → b - 1 - (b - suc k) ≡ k
   twice b k h = omega arith

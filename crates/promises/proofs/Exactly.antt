@@ -1,19 +1,16 @@
 -- Exact reading succeeds exactly on the atoms that are whole and of a known form, from a budget of at least their charge. What
 -- is whole and known is said over the bytes from the atom's place on, by `dictionary.Wholes`.
 use mathlib.Core.Path.{_≡_, refl, _∙_, sym, ap}
-use mathlib.Core.Bool.{Bool, true, false}
+use mathlib.Core.Bool.{Bool, true, false, false≢true}
 use mathlib.Core.List.{List, []}
-use Prim.Native.Nat.{ℕ, _+_, _-_, _≤_, _<_}
-use native.Mathlib.Omega.{arith}
+use Prim.Native.Nat.{ℕ, _+_, _-_, _≤_}
 use lib.Dec.{leb}
 use lib.ListN.{length, drop}
 use borrow.Author.Tests.{leb-true, leb-false}
 use Rattle.types.specs.declared.Way.the-variants as W
 use Rattle.types.specs.declared.Place.{Place}
 use Rattle.types.specs.declared.Budget.{Budget}
-use Rattle.types.specs.declared.Refusal.{Refusal}
 use Rattle.types.specs.declared.Atom.{Atom}
-use Rattle.types.specs.declared.Skipped.{Skipped}
 use Rattle.types.specs.declared.Skipped.the-variants as SK
 use Rattle.types.specs.declared.HeaderAnswer.{HeaderAnswer}
 use Rattle.types.specs.declared.HeaderAnswer.the-variants as H
@@ -23,7 +20,7 @@ use Rattle.header.specs.Header.{headerKind, headerArgument, headerLength, heade
 use Rattle.atom.specs.Atoms.{atomRead}
 use Rattle.dictionary.specs.Wholes.{known, bodyLength, chargeOf, isString, unknown}
 use Rattle.dictionary.specs.Steps.{forgotten, skipped, bodyPast}
-use Rattle.dictionary.proofs.Bodies.{past-whole, Passed, passed}
+use Rattle.dictionary.proofs.Bodies.{past-whole, passed}
 use Rattle.dictionary.proofs.Steps.{step-cut, step-body}
 use Rattle.dictionary.proofs.Forwards.{read-step}
 
@@ -39,11 +36,7 @@ module _ (s : List ℕ) (at : ℕ) (within : at ≤ length s) (budget : Budget) 
   skipped-at : (v : Bool) → leb (at + headerLength (drop at s)) (length s) ≡ v → skipped s at budget ≡ SK.Past place rest body string → Whole s at budget
   skipped-at false h e =
       let x = sym e ∙ step-cut s at within budget (leb-false (at + headerLength (drop at s)) (length s) h) in
-      let z : _≡_ {A = ℕ} 0 1 = cc in
-      absurd (no z)
-    where
-      no : _≡_ {A = ℕ} 0 1 → ⊥
-      no z = omega arith
+      absurd (false≢true cc)
   skipped-at true h e =
       let l = drop at s in
       let k = leb-true (at + headerLength l) (length s) h in
@@ -63,15 +56,9 @@ pub record Taken (s : List ℕ) (at : ℕ) (budget : Budget) : Type 0 where
 
 remembered : (s : List ℕ) (at : ℕ) (budget : Budget) (place : Place) (rest : Budget) (body : Place) (string : Bool) (h : HeaderAnswer) (a : AtomAnswer) → forgotten h a ≡ SK.Past place rest body string → (x : Atom) × (a ≡ A.Read place rest x)
 remembered s at budget place rest body string (H.Read n k x) (A.Read p b y) e = (y, cc)
-remembered s at budget place rest body string (H.Read n k x) (A.Refused p b r) e = absurd (no (cc))
-  where
-    no : _≡_ {A = ℕ} 0 1 → ⊥
-    no z = omega arith
+remembered s at budget place rest body string (H.Read n k x) (A.Refused p b r) e = absurd (false≢true cc)
 remembered s at budget place rest body string (H.Refused n q) (A.Read p b y) e = (y, cc)
-remembered s at budget place rest body string (H.Refused n q) (A.Refused p b r) e = absurd (no (cc))
-  where
-    no : _≡_ {A = ℕ} 0 1 → ⊥
-    no z = omega arith
+remembered s at budget place rest body string (H.Refused n q) (A.Refused p b r) e = absurd (false≢true cc)
 
 -- IF: what is whole and known is taken
 pub whole-is-taken : (s : List ℕ) (at : ℕ) → at ≤ length s → (budget : Budget) → Whole s at budget → Taken s at budget

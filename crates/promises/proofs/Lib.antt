@@ -20,6 +20,7 @@ pub mod Recast
 pub mod Exports
 pub mod Laid
 pub mod Exactly
+pub mod Filled
 pub mod SameValue
 pub mod Demand1
 pub mod Demand2

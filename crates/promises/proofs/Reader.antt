@@ -1,5 +1,5 @@
 -- One result for each contract of `reader`, and one content of each lent buffer.
-use Rattle.promises.proofs.One.{One}
+use Rattle.promises.proofs.One.{One, OnePart}
 use Rattle.reader.proofs.buffered_read_bytes as buffered-read-bytes
 use Rattle.reader.proofs.buffered_read_bytes.Reads as buffered-read-bytes-reads
 use Rattle.reader.proofs.copy_bytes as copy-bytes
@@ -14,16 +14,13 @@ use Rattle.reader.proofs.read_exact as read-exact
 use Rattle.reader.proofs.read_exact.Reads as read-exact-reads
 use Rattle.reader.proofs.«as_slice» as as-slice
 use Rattle.reader.proofs.«as_slice».Reads as as-slice-reads
-use borrow.Fn.World.{ArgsD, ResD}
-use contract.Lifetimes.{Lfts}
 use denote.Ref.{now, ptr}
-use denote.Triple.Clauses.{AtExit}
-use mathlib.Core.Path.{_≡_, _∙_, sym, refl}
+use mathlib.Core.Path.{_∙_, sym, refl}
 
-pub part-one : (κs : Lfts (part.ended .signature .lifetimes)) (a : ArgsD part.signature κs) (r₁ r₂ : ResD part.signature κs) (s₁ s₂ : AtExit part.ended κs) → part-reads.Post κs a r₁ s₁ → part-reads.Post κs a r₂ s₂ → (ptr r₁ ≡ ptr r₂) × (now r₁ ≡ now r₂)
+pub part-one : OnePart part.ended part-reads.Post (λ κs r. ptr r) (λ κs r. now r)
 part-one κs a r₁ r₂ s₁ s₂ p q = (p .1 ∙ sym (q .1), p .0 ∙ sym (q .0))
 
-pub as-slice-one : (κs : Lfts (as-slice.ended .signature .lifetimes)) (a : ArgsD as-slice.signature κs) (r₁ r₂ : ResD as-slice.signature κs) (s₁ s₂ : AtExit as-slice.ended κs) → as-slice-reads.Post κs a r₁ s₁ → as-slice-reads.Post κs a r₂ s₂ → (ptr r₁ ≡ ptr r₂) × (now r₁ ≡ now r₂)
+pub as-slice-one : OnePart as-slice.ended as-slice-reads.Post (λ κs r. ptr r) (λ κs r. now r)
 as-slice-one κs a r₁ r₂ s₁ s₂ p q = (p .1 ∙ sym (q .1), p .0 ∙ sym (q .0))
 
 pub lend-bytes-one : One lend-bytes.ended lend-bytes-reads.Post (λ κs s. tt {0})

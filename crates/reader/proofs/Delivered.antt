@@ -1,7 +1,7 @@
 -- The laws of the string read over every way, for the layers above: when it is taken, what it delivers, where the place is
 -- after it, and that a string which stands in the source is read back.
 use mathlib.Core.Path.{_≡_, refl, _∙_, sym, ap}
-use mathlib.Core.Bool.{Bool, true, false}
+use mathlib.Core.Bool.{Bool, true, false, false≢true}
 use mathlib.Core.List.{List, _++_}
 use Prim.Native.Nat.{ℕ, _+_, _≤_, _<_}
 use native.Mathlib.Omega.{arith}
@@ -85,8 +85,8 @@ taken-by way s place n scratch p m (whole h r) e =
     let pe : p ≡ record { 0 = startOf s place + n } = cc in
     let me : m ≡ stringMark way (startOf s place) n = cc in
     (h, ap (λ (q : Place). q .0) pe, ap (λ (k : Mark). markedBytes k s (stringScratch way s place n scratch)) me ∙ d)
-taken-by way s place n scratch p m (cut h) e = let a = string-eof way s place n scratch h .0 in let z : _≡_ {A = ℕ} 0 1 = cc in absurd (omega arith)
-taken-by way s place n scratch p m (cramped h r) e = let a = string-no-room way s place n scratch h r .0 in let z : _≡_ {A = ℕ} 0 1 = cc in absurd (omega arith)
+taken-by way s place n scratch p m (cut h) e = let a = string-eof way s place n scratch h .0 in absurd (false≢true cc)
+taken-by way s place n scratch p m (cramped h r) e = let a = string-no-room way s place n scratch h r .0 in absurd (false≢true cc)
 
 pub string-taken : (way : Way) (s : List ℕ) (place n : ℕ) (scratch : List ℕ) (p : Place) (m : Mark) → stringAnswer way s place n scratch ≡ B.Read p m → (startOf s place + n ≤ length s) × (p .0 ≡ startOf s place + n) × (markedBytes m s (stringScratch way s place n scratch) ≡ stringOf s place n)
 string-taken way s place n scratch p m e = taken-by way s place n scratch p m (outcome way s place n scratch) e

@@ -1,30 +1,24 @@
 -- The laws of the string read that every caller cites: when it is taken or refused, and what it delivers.
-use mathlib.Core.Path.{_≡_, refl, _∙_, ap}
-use mathlib.Core.Bool.{Bool, true, false}
+use mathlib.Core.Path.{_≡_, _∙_, ap}
 use mathlib.Core.List.{List, _++_}
 use Prim.Native.Nat.{ℕ, _+_, _≤_, _<_}
 use native.Mathlib.Omega.{arith}
-use lib.Dec.{ltb}
 use lib.ListN.{length, drop, length-drop}
 use lib.Seq.{length-take-le}
-use borrow.Author.Tests.{le-ltb, lt-ltb, ltb-false}
-use Rattle.types.specs.Choice.{pick}
+use borrow.Author.Tests.{le-ltb, lt-ltb}
 use Rattle.types.specs.Refusals.{noRoom}
+use Rattle.types.proofs.Places.{place-within, place-same}
 use Rattle.types.specs.declared.BytesAnswer.the-variants as B
 use Rattle.lent.proofs.Stores.{content-room, content-short}
 use Rattle.reader.specs.Strings.{startOf, stringOf, stringEof, lentMark, copiedMark, stringRead, lentString, copiedString, copiedScratch}
 
 -- a place is within the source
-place-within : (n p : ℕ) (t : Bool) → ltb n p ≡ t → pick t n p ≤ n
-place-within n p true e = omega arith
-place-within n p false e = omega (arith, ltb-false n p e)
-
 pub start-within : (s : List ℕ) (place : ℕ) → startOf s place ≤ length s
-start-within s place = place-within (length s) place (ltb (length s) place) refl
+start-within s place = place-within (length s) place
 
 -- and is itself if it is given so
 pub start-same : (s : List ℕ) (place : ℕ) → place ≤ length s → startOf s place ≡ place
-start-same s place h = simp (le-ltb (length s) place h)
+start-same s place h = place-same (length s) place h
 
 module _ (s : List ℕ) (place n : ℕ) where
   -- the string has its length where the source does not run out

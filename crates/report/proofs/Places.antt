@@ -1,7 +1,7 @@
 -- The places that a report rests on: a refused atom starts within the bytes that are tallied, and a file whose signature was
 -- read has its four bytes.
-use mathlib.Core.Path.{_≡_, refl, _∙_, sym, ap}
-use mathlib.Core.Bool.{Bool, true, false}
+use mathlib.Core.Path.{_≡_, refl, _∙_, sym}
+use mathlib.Core.Bool.{Bool, true, false, false≢true}
 use mathlib.Core.List.{List}
 use Prim.Native.Nat.{ℕ, zero, suc, _-_, _≤_, _<_}
 use native.Mathlib.Omega.{arith}
@@ -71,8 +71,7 @@ read-cases : (s : List ℕ) (t : Bool) → leb 4 (length s) ≡ t → isRead (ve
 read-cases s true e r = leb-true 4 (length s) e
 read-cases s false e r =
     let no : true ≡ false = sym r ∙ short-unread s (leb-false 4 (length s) e) in
-    let z : _≡_ {A = ℕ} 0 1 = cc in
-    omega arith
+    absurd (false≢true cc)
 
 pub read-long : (s : List ℕ) → isRead (versionRead W.ExactLent s 0) ≡ true → 4 ≤ length s
 read-long s = read-cases s (leb 4 (length s)) refl

@@ -1,7 +1,7 @@
 -- HOW LONG THE TEXT IS: of every file at most 79 bytes, so that the program's buffer has its room. The numbers of a file that
 -- was tallied are bounded by its bytes, which demand 3 shows of a list of atoms.
 use mathlib.Core.Path.{_≡_, refl, _∙_, sym, ap, subst}
-use mathlib.Core.Bool.{Bool, true, false}
+use mathlib.Core.Bool.{Bool, true, false, false≢true}
 use mathlib.Core.List.{List, _++_}
 use mathlib.Core.Logic.{⊎-elim}
 use Prim.Native.Nat.{ℕ, suc, _+_, _%_, _^_, _≤_, _<_}
@@ -187,8 +187,7 @@ module _ (file old : List ℕ) (h : 79 ≤ length old) where
   pub room-taken : (r : Refusal) → writtenAnswer (reportText (reportOf file)) old ≡ WR.Refused r → ⊥
   room-taken r e =
       let no : WR.Count (length (reportText (reportOf file))) ≡ WR.Refused r = sym (text-room file old h) ∙ e in
-      let z : _≡_ {A = ℕ} 0 1 = cc in
-      omega arith
+      false≢true cc
 
   pub room-holds : (new : List ℕ) → new ≡ writtenContent (reportText (reportOf file)) old → length (reportText (reportOf file)) ≤ length new
   room-holds new e =

@@ -7,8 +7,9 @@ use Prim.Native.Nat.{ℕ, _+_, _≤_, _<_}
 use native.Mathlib.Omega.{arith}
 use lib.ListN.{length, drop}
 use lib.Seq.{drop-length}
-use borrow.Author.Tests.{le-ltb, le-leb}
+use borrow.Author.Tests.{le-leb}
 use Rattle.types.specs.Counters.{placeIn}
+use Rattle.types.proofs.Places.{place-same}
 use Rattle.types.specs.declared.Kind.{Kind}
 use Rattle.types.specs.declared.Kind.the-variants as K
 use Rattle.little.specs.Counts.{listed}
@@ -16,10 +17,6 @@ use Rattle.integer.specs.Integers.{integerKind, allowedCount, integerFrom, inte
 use Rattle.reader.proofs.Strings.{lent-read, lent-eof}
 use Rattle.slice_reader.specs.Left.{leftBytes}
 use Rattle.slice_reader.specs.Given.{integerGiven, integerPlace, stringGiven, stringPlace}
-
--- a place within the slice is itself
-place-same : (n p : ℕ) → p ≤ n → placeIn n p ≡ p
-place-same n p h = simp (le-ltb n p h)
 
 -- from the end on stands nothing
 left-nothing : (s : List ℕ) → leftBytes s (length s) ≡ []

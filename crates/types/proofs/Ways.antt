@@ -1,8 +1,11 @@
 -- The laws of the two ways of reading that every reader cites: what is taken within the source, what past its end.
-use mathlib.Core.Path.{_≡_}
-use mathlib.Core.Bool.{true, false}
+use mathlib.Core.Path.{_≡_, refl}
+use mathlib.Core.Bool.{Bool, true, false}
 use Prim.Native.Nat.{ℕ, _≤_, _<_}
-use borrow.Author.Tests.{le-leb, lt-leb}
+use native.Mathlib.Omega.{arith}
+use lib.Dec.{leb}
+use borrow.Author.Tests.{leb-true, le-leb, lt-leb}
+use Rattle.types.specs.Choice.{pick}
 use Rattle.types.specs.Ways.{exact, upTo}
 use Rattle.types.specs.declared.Way.{Way}
 
@@ -18,3 +21,12 @@ module _ {X : Type 0} (way : Way) (length end : ℕ) (taken : ℕ → X) (eof : 
   -- and exact reading refuses
   pub up-to-eof : length < end → exact way ≡ true → upTo way length end taken eof ≡ eof
   up-to-eof h e = simp (lt-leb end length h, e)
+
+  -- either way the place is from the start, which is within the source, to the source's end
+  pub up-to-between : (place : X → ℕ) → ((at : ℕ) → place (taken at) ≡ at) → place eof ≡ length → (at : ℕ) → at ≤ length → at ≤ end → (at ≤ place (upTo way length end taken eof)) × (place (upTo way length end taken eof) ≤ length)
+  up-to-between place t e at h k = between (leb end length) (exact way) refl
+    where
+      between : (u v : Bool) → leb end length ≡ u → (at ≤ place (pick u (taken end) (pick v eof (taken length)))) × (place (pick u (taken end) (pick v eof (taken length))) ≤ length)
+      between true v f = let l = leb-true end length f in rw (t end) (k, l)
+      between false true f = rw e (h, omega arith)
+      between false false f = rw (t length) (h, omega arith)

@@ -2,5 +2,4 @@ pub mod Levels
 pub mod Wrote
 pub mod Signed
 pub mod Words
-pub mod RoundTrip
 pub mod Copies

@@ -1,6 +1,6 @@
 -- Values of the machine's signed widths, as a writer hands them on.
 use mathlib.Core.Path.{_≡_, refl, _∙_, ap}
-use mathlib.Core.Bool.{true, false}
+use mathlib.Core.Bool.{true, false, false≢true}
 use Prim.Native.Nat.{ℕ, _-_, _^_, _≤_, _<_}
 use native.Mathlib.Omega.{arith}
 use lib.Dec.{leb, lit≤}
@@ -22,12 +22,9 @@ module _ (w : Width) (z : ℤ) (f : SFits w z) where
   handed-on u g = ap (λ (x : ℤ). toZ u (ofZ u x)) (toZ-ofZ w z f) ∙ toZ-ofZ u z g
 
 -- the magnitude of 64 bits: the value, or its complement
-unlike : false ≡ true → ⊥
-unlike h = let z : _≡_ {A = ℕ} 0 1 = cc in omega arith
-
 pub magnitude-pos : (z : ℤ) → SFits w64 z → leZ (pos 0) (toZ w64 (ofZ w64 z)) ≡ true → natAbs (toZ w64 (ofZ w64 z)) ≡ mag z
 magnitude-pos (pos k) f h = rw (toZ-ofZ w64 (pos k) f) refl
-magnitude-pos (negsuc k) f h = absurd (unlike (rw (toZ-ofZ w64 (negsuc k) f) at h))
+magnitude-pos (negsuc k) f h = absurd (false≢true (rw (toZ-ofZ w64 (negsuc k) f) at h))
 
 passes : (k : ℕ) → leb 0 k ≡ false → ⊥
 passes k h = omega (arith, leb-false 0 k h)

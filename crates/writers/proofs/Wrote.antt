@@ -1,6 +1,6 @@
 -- What a writer ensures of its answer and its buffer, carried from the writer that it calls.
-use mathlib.Core.Path.{_≡_, refl, _∙_, sym, ap}
-use mathlib.Core.Bool.{Bool, true, false}
+use mathlib.Core.Path.{_≡_, refl, _∙_, sym}
+use mathlib.Core.Bool.{Bool, true, false, false≢true}
 use mathlib.Core.List.{List, _++_}
 use Prim.Native.Nat.{ℕ, _+_, _-_, _≤_}
 use native.Mathlib.Omega.{arith}
@@ -9,7 +9,7 @@ use Rattle.types.specs.declared.Refusal.the-variants as R
 use Rattle.types.specs.declared.Written.{Written}
 use Rattle.types.specs.declared.Written.the-variants as W
 use Rattle.lent.specs.Lent.{writtenAnswer, writtenContent}
-use Rattle.lent.proofs.Stores.{headed, content-room}
+use Rattle.lent.proofs.Stores.{same-write, headed, content-room}
 use Rattle.writers.specs.Bytes.{heldAnswer, heldContent}
 
 -- the answer and the buffer after it are those of a write of these bytes
@@ -23,20 +23,20 @@ WroteHeld r left old held bytes = (r ≡ heldAnswer held bytes old) × (left ≡
 module _ (r : Written) (left old bytes : List ℕ) where
   -- equal bytes
   pub wrote : (others : List ℕ) → others ≡ bytes → Wrote r left old others → Wrote r left old bytes
-  wrote others e w = (w .0 ∙ ap (λ (l : List ℕ). writtenAnswer l old) e, w .1 ∙ ap (λ (l : List ℕ). writtenContent l old) e)
+  wrote others e w = same-write others bytes old left r e w
 
   -- a value that is held is written
   pub wrote-held : (held : Bool) → held ≡ true → Wrote r left old bytes → WroteHeld r left old held bytes
   wrote-held true h w = w
-  wrote-held false h w = let z : _≡_ {A = ℕ} 0 1 = cc in absurd (omega arith)
+  wrote-held false h w = absurd (false≢true cc)
 
   pub held-wrote : (held : Bool) → held ≡ true → WroteHeld r left old held bytes → Wrote r left old bytes
   held-wrote true h w = w
-  held-wrote false h w = let z : _≡_ {A = ℕ} 0 1 = cc in absurd (omega arith)
+  held-wrote false h w = absurd (false≢true cc)
 
 -- one that is not is refused, and the buffer is as it was
 pub not-held : (old bytes : List ℕ) (held : Bool) → held ≡ false → WroteHeld (W.Refused R.ImpreciseCastWouldLoseData) old old held bytes
-not-held old bytes true h = let z : _≡_ {A = ℕ} 0 1 = cc in absurd (omega arith)
+not-held old bytes true h = absurd (false≢true cc)
 not-held old bytes false h = (refl, refl)
 
 -- A head of n bytes is written, and then another writer fills the part after it.

@@ -1,7 +1,9 @@
 -- `float::write_f32_bits` meets its contract: each arm by what the narrowing answered.
 use denote.Ref.{now}
+use Rattle.header.specs.Header.{headerBytes}
 use Rattle.float.specs.Bytes.{floatBytes}
-use Rattle.float.proofs.Writes.{same-write, half-taken, half-lost}
+use Rattle.lent.proofs.Stores.{same-write}
+use Rattle.float.proofs.Writes.{half-taken, half-lost}
 use borrow.Author.Needs.{needs}
 use Rattle.float.proofs.write_f32_bits.Statement.{statement}
 use Rattle.float.proofs.write_f32_bits.Tie as tie
@@ -22,7 +24,7 @@ same-length : tie.Need-same-length
 same-length c = search needs
 
 returns : tie.Need-returns
-unfolding floatBytes
+unfolding floatBytes headerBytes
 returns c = let a = c .before .before .before .before .before .before .before .before .before .args in same-write _ _ (now (a .out)) _ _ (half-taken (a .bits) _ (c .before .before .before .before .before .before .before .f32-to-f16-bits .ensures) _ (c .before .before .before .before .before .half .given .1)) (c .before .before .put2 .ensures)
 
 enum-told : tie.Need-enum-told
@@ -35,7 +37,7 @@ same-length-2 : tie.Need-same-length-2
 same-length-2 c = search needs
 
 returns-2 : tie.Need-returns-2
-unfolding floatBytes
+unfolding floatBytes headerBytes
 returns-2 c = let a = c .before .before .before .before .before .before .before .before .args in same-write _ _ (now (a .out)) _ _ (half-lost (a .bits) _ (c .before .before .before .before .before .before .f32-to-f16-bits .ensures) (c .before .before .before .before .enum-told .given .1)) (c .before .before .put4 .ensures)
 
 pub write-f32-bits-spec : {M : Type 1} → statement M

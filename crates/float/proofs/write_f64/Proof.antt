@@ -2,7 +2,7 @@
 use mathlib.Core.Path.{ap}
 use denote.Ref.{now}
 use Rattle.float.specs.Bytes.{f64Bytes}
-use Rattle.float.proofs.Writes.{same-write}
+use Rattle.lent.proofs.Stores.{same-write}
 use borrow.Author.Needs.{needs}
 use Rattle.float.proofs.write_f64.Statement.{statement}
 use Rattle.float.proofs.write_f64.Tie as tie

@@ -1,7 +1,9 @@
 -- `float::write_f64_bits` meets its contract: each arm by what the narrowing answered.
 use denote.Ref.{now}
+use Rattle.header.specs.Header.{headerBytes}
 use Rattle.float.specs.Bytes.{floatBytes}
-use Rattle.float.proofs.Writes.{same-write, single-taken, single-lost}
+use Rattle.lent.proofs.Stores.{same-write}
+use Rattle.float.proofs.Writes.{single-taken, single-lost}
 use borrow.Author.Needs.{needs}
 use Rattle.float.proofs.write_f64_bits.Statement.{statement}
 use Rattle.float.proofs.write_f64_bits.Tie as tie
@@ -31,7 +33,7 @@ same-length-2 : tie.Need-same-length-2
 same-length-2 c = search needs
 
 returns-2 : tie.Need-returns-2
-unfolding floatBytes
+unfolding floatBytes headerBytes
 returns-2 c = let a = c .before .before .before .before .before .before .before .before .args in same-write _ _ (now (a .out)) _ _ (single-lost (a .bits) _ (c .before .before .before .before .before .before .f64-to-f32-bits .ensures) (c .before .before .before .before .enum-told .given .1)) (c .before .before .put8 .ensures)
 
 pub write-f64-bits-spec : {M : Type 1} → statement M

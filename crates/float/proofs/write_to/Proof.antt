@@ -1,6 +1,7 @@
 -- `float::write_to` meets its contract: each variant is written by its own writer.
 use denote.Ref.{now}
-use Rattle.float.proofs.Writes.{same-write, value-f32, value-f64}
+use Rattle.lent.proofs.Stores.{same-write}
+use Rattle.float.proofs.Writes.{value-f32, value-f64}
 use borrow.Author.Needs.{needs}
 use Rattle.float.proofs.write_to.Statement.{statement}
 use Rattle.float.proofs.write_to.Tie as tie

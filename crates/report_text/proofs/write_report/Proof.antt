@@ -1,11 +1,9 @@
 -- `report_text::write_report` meets its contract: the first bytes of the buffer are the text, and `lent::put_all` writes them.
-use mathlib.Core.Path.{_∙_, sym, ap}
-use mathlib.Core.List.{List}
-use Prim.Native.Nat.{ℕ}
+use mathlib.Core.Path.{sym}
 use native.Mathlib.Omega.{arith}
 use denote.Ref.{now}
 use lib.Seq.{length-take-le}
-use Rattle.lent.specs.Lent.{writtenAnswer, writtenContent}
+use Rattle.lent.proofs.Stores.{same-write}
 use borrow.Author.Needs.{needs}
 use Rattle.report_text.proofs.write_report.Statement.{statement}
 use Rattle.report_text.proofs.write_report.Tie as tie
@@ -35,7 +33,7 @@ returns c =
     let old = now (c .before .before .before .before .before .before .before .before .before .before .args .out) in
     let put = c .before .before .before .before .before .before .put-report in
     let wrote = c .before .before .put-all .ensures in
-    (wrote .0 ∙ ap (λ (l : List ℕ). writtenAnswer l old) (put .ensures .1), wrote .1 ∙ ap (λ (l : List ℕ). writtenContent l old) (put .ensures .1))
+    same-write _ _ old _ _ (put .ensures .1) wrote
 
 pub write-report-spec : {M : Type 1} → statement M
 write-report-spec =
