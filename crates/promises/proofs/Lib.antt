@@ -22,6 +22,7 @@ pub mod Laid
 pub mod Exactly
 pub mod SameValue
 pub mod Demand1
+pub mod Entries
 pub mod Demand2
 pub mod Demands
 pub mod Starred
