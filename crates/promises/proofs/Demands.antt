@@ -2,17 +2,18 @@
 use mathlib.Core.Path.{_≡_, refl}
 use mathlib.Core.Bool.{Bool, true, false, _&&_}
 use mathlib.Core.Logic.{_⊎_, inl, inr, ⊎-elim}
-use mathlib.Core.List.{List}
-use Prim.Native.Nat.{ℕ, _-_, _*_, _≤_, _<_}
+use mathlib.Core.List.{List, []}
+use Prim.Native.Nat.{ℕ, suc, _-_, _*_, _%_, _^_, _≤_, _<_}
 use lib.Dec.{leb}
-use lib.IntN.{ℤ}
+use lib.IntN.{ℤ, pos}
 use lib.ListN.{length}
 use lib.Ieee.{Format, ofBits}
-use mir.Syntax.{Sign, Width}
-use mir.Val.{bytes}
+use mir.Syntax.{Sign, signed, Width}
+use mir.Val.{bytes, hbits}
 use borrow.Author.Tests.{le-leb, lt-leb}
 use Rattle.types.specs.Choice.{pick}
 use Rattle.types.specs.declared.Way.{Way}
+use Rattle.types.specs.declared.Way.the-variants as W
 use Rattle.types.specs.declared.Place.{Place}
 use Rattle.types.specs.declared.Budget.{Budget}
 use Rattle.types.specs.declared.Kind.{Kind}
@@ -21,10 +22,12 @@ use Rattle.types.specs.declared.Refusal.{Refusal}
 use Rattle.types.specs.declared.Refusal.the-variants as R
 use Rattle.types.specs.declared.HeaderAnswer.{HeaderAnswer}
 use Rattle.types.specs.declared.HeaderAnswer.the-variants as H
+use Rattle.types.specs.declared.AtomAnswer.the-variants as A
+use Rattle.types.specs.declared.AsInteger.the-variants as AsInteger
 use Rattle.types.specs.declared.Ran.the-variants as RN
 use Rattle.types.specs.declared.TallyAnswer.the-variants as TA
 use Rattle.header.specs.Header.{headerRead}
-use Rattle.binary.specs.Formats.{Layout, half, single, double, meaning, SameValue}
+use Rattle.binary.specs.Formats.{Layout, half, single, double, finite, infinite, nan, meaning, SameValue}
 use Rattle.binary.specs.Formats as Formats
 use Rattle.binary.specs.Conversions.{widened, narrowed, exact}
 use Rattle.binary.specs.Floats.{floatMeaning, plain, layoutOf}
@@ -35,6 +38,7 @@ use Rattle.cast.specs.Variants.{width, value, inRange}
 use Rattle.cast.specs.Casts.{cast}
 use Rattle.cast.specs.Froms.{from}
 use Rattle.cast.proofs.Made.{cast-from}
+use Rattle.float_cast.specs.Integral.{one, clamped, integral}
 use Rattle.atom.specs.Atoms.{atomRead, atomScratch}
 use Rattle.dictionary.specs.Runs.{runAll, tallyAll, mostBytes}
 use Rattle.dictionary.specs.Wholes.{Atoms, total, price, bodyBytes}
@@ -46,7 +50,9 @@ use Rattle.promises.specs.Entries.{KindRows, SpecialRows, HeaderRows, Si
 use Rattle.promises.specs.Values.{Value, written, roomFor, ReadBack}
 use Rattle.promises.proofs.Demand1 as Demand1
 use Rattle.promises.proofs.Entries as Entries
+use Rattle.promises.proofs.Stops as Stops
 use Rattle.promises.proofs.Demand2 as Demand2
+use Rattle.promises.proofs.Integrals as Integrals
 
 -- 1: AN ATOM IS READ, OR REFUSED BY A ROW of document 01's table, by its number, with the place, the budget and the scratch that
 -- the row says.
@@ -102,6 +108,10 @@ demand1-held = Entries.helds
 pub demand1-length : (s : List ℕ) → LengthRows s
 demand1-length = Entries.lengths
 
+-- A run that stops does so by the refusal of the atom where it says that this starts, with that refusal's place and budget.
+pub demand1-run : (s : List ℕ) (budget : Budget) (place : Place) (rest : Budget) (atoms : ℕ) (why : Refusal) (start : Place) → runAll s budget ≡ RN.Stopped place rest atoms why start → (left : Budget) × (atomRead W.ExactLent s (start .0) left [] ≡ A.Refused place rest why)
+demand1-run s budget place rest atoms why start e = Stops.stops s place rest atoms why start (suc (length s)) 0 budget 0 e
+
 -- 2: WHAT WAS WRITTEN READS BACK as the value written: every value, every way, anything before and after it, any budget of at
 -- least the price, any scratch with room.
 pub demand2 : (way : Way) (before after : List ℕ) (budget : Budget) (scratch : List ℕ) (value : Value) → price (written value) ≤ budget .0 → roomFor way value ≤ length scratch → ReadBack way before after budget scratch value
@@ -147,6 +157,25 @@ demand2-casts sign target taken refused = record {
     never : (b : Bool) → (b && false) ≡ false
     never true = refl
     never false = refl
+
+-- A FLOAT IS AN INTEGER if it is whole, clamped, or under the bound, as 0: of its meaning in units of 2^-1074, under 2^-k, to a
+-- width. An F32 goes by 23 and 32 bits, an F64 by 52 and 64.
+pub record IntegralRows (k : ℕ) (w : Width) : Type 0 where
+  pub whole : (s : Bool) (n : ℕ) → integral k w (finite s (n * one)) ≡ AsInteger.Value (from signed w (clamped (hbits w) s n))
+  pub small : (s : Bool) (m : ℕ) → m < 2 ^ (1074 - k) → integral k w (finite s m) ≡ AsInteger.Value (from signed w (pos 0))
+  pub fraction : (s : Bool) (m : ℕ) → 2 ^ (1074 - k) ≤ m → (m % one ≡ 0 → ⊥) → integral k w (finite s m) ≡ AsInteger.Refused R.ImpreciseCastWouldLoseData
+  pub infinity : (s : Bool) → integral k w (infinite s) ≡ AsInteger.Refused R.ImpreciseCastWouldLoseData
+  pub not-a-number : (s : Bool) (t : ℕ) → integral k w (nan s t) ≡ AsInteger.Refused R.ImpreciseCastWouldLoseData
+
+pub demand2-integrals : (k : ℕ) (w : Width) → IntegralRows k w
+unfolding integral
+demand2-integrals k w = record {
+  whole = Integrals.whole-taken k w;
+  small = Integrals.small-taken k w;
+  fraction = Integrals.fraction-refused k w;
+  infinity = λ s. refl;
+  not-a-number = λ s t. refl;
+}
 
 -- 3: THE PRICE OF A FILE IS EXACT. Of whole, known atoms whose charges sum to C:
 pub record Priced (s : List ℕ) (atoms : List (List ℕ)) : Type 0 where

@@ -52,6 +52,10 @@ use Rattle.types.specs.declared.AsInteger.the-variants as In
 use Rattle.report.specs.declared.Report.{Report}
 use Rattle.report.specs.declared.Report.the-variants as RP
 use Rattle.cast.specs.Variants.{sign, width, value}
+use Rattle.binary.specs.declared.Narrowed16.{Narrowed16}
+use Rattle.binary.specs.declared.Narrowed16.the-variants as N16
+use Rattle.binary.specs.declared.Narrowed32.{Narrowed32}
+use Rattle.binary.specs.declared.Narrowed32.the-variants as N32
 use Rattle.binary.specs.Formats.{Meaning, finite, infinite, nan}
 use Rattle.binary.specs.Floats.{floatMeaning}
 use Rattle.types.specs.declared.Refusal.{Refusal}
@@ -238,6 +242,15 @@ toldAsFloat (Fl.Refused r) = refused [] r
 abbrev pub toldAsInteger : AsInteger → Told
 toldAsInteger (In.Value x) = taken (integerTold x)
 toldAsInteger (In.Refused r) = refused [] r
+
+-- a narrower pattern, or none: no refusal either way
+abbrev pub toldNarrowed16 : Narrowed16 → Told
+toldNarrowed16 (N16.Pattern q) = taken (pos q ∷ [])
+toldNarrowed16 N16.None = taken []
+
+abbrev pub toldNarrowed32 : Narrowed32 → Told
+toldNarrowed32 (N32.Pattern q) = taken (pos q ∷ [])
+toldNarrowed32 N32.None = taken []
 
 -- what the tally program finds of a file
 abbrev pub toldReport : Report → Told
