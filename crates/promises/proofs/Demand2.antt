@@ -33,7 +33,7 @@ use Rattle.little.proofs.Shortest.{shortestS-holds, shortestS-listed, shortestU
 use Rattle.integer.specs.Integers.{wideBits, allowedCount, integerKind, integerOf, intOf, uintOf, integerValue, integerBody}
 use Rattle.types.specs.declared.IntegerAnswer.the-variants as IA
 use Rattle.types.specs.Counters.{placeIn}
-use borrow.Author.Tests.{ltb-true, le-ltb, lt-ltb}
+use borrow.Author.Tests.{ltb-true, lt-ltb}
 use Rattle.integer.proofs.Counts.{allowed-bounds}
 use Rattle.integer.proofs.Answers.{from-body}
 use Rattle.integer.proofs.RoundTrip.{body-back, int-value-back, uint-value}
@@ -57,6 +57,7 @@ use Rattle.types.specs.declared.Float.the-variants as F
 use Rattle.cast.specs.Variants.{sign, width, value, inRange}
 use Rattle.promises.specs.Rows.{Number, int, uint, float}
 use Rattle.promises.specs.Values.{Value, number, natural, integer, f32-bits, f64-bits, f32, f64, special, string, header, HeaderOnly, sequence, map, symbol, kindOf, written, roomFor, Carries, number-carried, natural-carried, integer-carried, f32-bits-carried, f64-bits-carried, f32-carried, f64-carried, special-carried, string-carried, header-carried, ReadBack}
+use Rattle.promises.proofs.Demand1.{inside}
 use Rattle.promises.proofs.SameValue.{same-value, same-words}
 
 -- a count of 1 to 16 is its argument plus 1
@@ -125,10 +126,6 @@ float-bounds n (two e) = rw e (omega arith, omega arith)
 float-bounds n (four e) = rw e (omega arith, omega arith)
 float-bounds n (eight e) = rw e (omega arith, omega arith)
 
--- a place within the source is itself
-within : (n at : ℕ) → at ≤ n → placeIn n at ≡ at
-within n at h = simp (le-ltb n at h)
-
 -- what any float writer stored reads back with the stored bits beside the value; `Stored` says that the value is the one
 -- written, with its sign and magnitude, and that a NaN keeps its width and bits
 pub float-back : (way : Way) (own bits : ℕ) (bytes before after : List ℕ) (S : Stored own bits bytes) (budget : Budget) (scratch : List ℕ) → numberCharge (S .count) ≤ budget .0 → atomRead way (before ++ (bytes ++ after)) (length before) budget scratch ≡ A.Read (record { 0 = length before + length bytes }) (record { 0 = budget .0 - numberCharge (S .count) }) (atomOf K.Float (S .count - 1) (N.Float (floatOf (S .count) (S .stored)) (S .stored)))
@@ -139,7 +136,7 @@ float-back way own bits bytes before after S budget scratch b =
     let back = floats.written-back way own bits bytes before after S in
     let range = float-bounds n (allowed-is n (S .its-count)) in
     let long : length s ≡ length before + (length bytes + length after) = simp length-append in
-    let at : placeIn (length s) (length before) ≡ length before = within (length s) (length before) (omega arith) in
+    let at : placeIn (length s) (length before) ≡ length before = inside (length s) (length before) (omega arith) in
     let next : Place = record { 0 = length before + 1 } in
     let left : Budget = record { 0 = budget .0 - numberCharge n } in
     ap (λ (p : ℕ). atomFrom way s budget scratch (headerFrom way s p)) at
@@ -155,7 +152,7 @@ bytes-delivered way before bytes after budget scratch l b r =
     let hd : List ℕ = headerBytes K.Bytes n in
     let s : List ℕ = before ++ (hd ++ (bytes ++ after)) in
     let long : length s ≡ length before + (length hd + length (bytes ++ after)) = simp length-append in
-    let at : placeIn (length s) (length before) ≡ length before = simp (le-ltb (length s) (length before) (omega arith)) in
+    let at : placeIn (length s) (length before) ≡ length before = inside (length s) (length before) (omega arith) in
     let split : s ≡ (before ++ hd) ++ (bytes ++ after) = sym (append-assoc before hd (bytes ++ after)) in
     let place : length (before ++ hd) ≡ length before + length hd = length-append before hd in
     let header = ap (λ (p : ℕ). headerFrom way s p) at ∙ header-back way K.Bytes n before (bytes ++ after) l in

@@ -17,9 +17,6 @@ use Rattle.types.specs.declared.AtomAnswer.the-variants as A
 use Rattle.atom.specs.Atoms.{atomRead}
 use Rattle.dictionary.specs.Runs.{afterAtom, runFrom}
 
-never : _≡_ {A = ℕ} 0 1 → ⊥
-never e = omega arith
-
 module _ (s : List ℕ) (place : Place) (rest : Budget) (atoms : ℕ) (why : Refusal) (start : Place) where
   by-atom : (fuel at : ℕ) (budget : Budget) (n : ℕ) (t : Bool) (a : AtomAnswer) → atomRead W.ExactLent s at budget [] ≡ a → ((p : Place) (b : Budget) → runFrom fuel s (p .0) b (n + 1) ≡ RN.Stopped place rest atoms why start → (left : Budget) × (atomRead W.ExactLent s (start .0) left [] ≡ A.Refused place rest why)) → pick t (afterAtom a (λ p b. runFrom fuel s (p .0) b (n + 1)) (λ p b r. RN.Stopped p b n r (record { 0 = at }))) (RN.Done (record { 0 = at }) budget n) ≡ RN.Stopped place rest atoms why start → (left : Budget) × (atomRead W.ExactLent s (start .0) left [] ≡ A.Refused place rest why)
   by-atom fuel at budget n true (A.Read p b x) q later e = later p b e
@@ -27,9 +24,9 @@ module _ (s : List ℕ) (place : Place) (rest : Budget) (atoms : ℕ) (why : Ref
       let same : A.Refused p b r ≡ A.Refused place rest why = cc in
       let begun : record { 0 = at } ≡ start = cc in
       (budget, ap (λ (i : Place). atomRead W.ExactLent s (i .0) budget []) (sym begun) ∙ q ∙ same)
-  by-atom fuel at budget n false a q later e = let z : _≡_ {A = ℕ} 0 1 = cc in absurd (never z)
+  by-atom fuel at budget n false a q later e = let z : _≡_ {A = ℕ} 0 1 = cc in absurd (omega arith)
 
   pub stops : (fuel at : ℕ) (budget : Budget) (n : ℕ) → runFrom fuel s at budget n ≡ RN.Stopped place rest atoms why start → (left : Budget) × (atomRead W.ExactLent s (start .0) left [] ≡ A.Refused place rest why)
   unfolding runFrom
-  stops zero at budget n e = let z : _≡_ {A = ℕ} 0 1 = cc in absurd (never z)
+  stops zero at budget n e = let z : _≡_ {A = ℕ} 0 1 = cc in absurd (omega arith)
   stops (suc fuel) at budget n e = by-atom fuel at budget n (ltb at (length s)) (atomRead W.ExactLent s at budget []) refl (λ p b k. stops fuel (p .0) b (n + 1) k) e
