@@ -4,11 +4,12 @@ use mathlib.Core.Bool.{Bool, true, false, _&&_}
 use mathlib.Core.Logic.{_⊎_, inl, inr, ⊎-elim}
 use mathlib.Core.List.{List, []}
 use Prim.Native.Nat.{ℕ, suc, _-_, _*_, _%_, _^_, _≤_, _<_}
-use lib.Dec.{leb}
+use lib.Dec.{leb, T}
 use lib.IntN.{ℤ, pos}
 use lib.ListN.{length}
-use lib.Ieee.{Format, ofBits}
-use mir.Syntax.{Sign, signed, Width}
+use lib.Signed.{mag}
+use lib.Ieee.{Format, Float, binary32, binary64, fits, ofBits, ofInt}
+use mir.Syntax.{Sign, signed, Width, w32, w64}
 use mir.Val.{bytes, hbits}
 use borrow.Author.Tests.{le-leb, lt-leb}
 use Rattle.types.specs.Choice.{pick}
@@ -23,7 +24,10 @@ use Rattle.types.specs.declared.Refusal.the-variants as R
 use Rattle.types.specs.declared.HeaderAnswer.{HeaderAnswer}
 use Rattle.types.specs.declared.HeaderAnswer.the-variants as H
 use Rattle.types.specs.declared.AtomAnswer.the-variants as A
+use Rattle.types.specs.declared.Float.the-variants as F
 use Rattle.types.specs.declared.AsInteger.the-variants as AsInteger
+use Rattle.types.specs.declared.AsF32.the-variants as AsF32
+use Rattle.types.specs.declared.AsF64.the-variants as AsF64
 use Rattle.types.specs.declared.Ran.the-variants as RN
 use Rattle.types.specs.declared.TallyAnswer.the-variants as TA
 use Rattle.header.specs.Header.{headerRead}
@@ -35,7 +39,9 @@ use Rattle.binary.proofs.Values.{ofBits-means}
 use Rattle.binary.proofs.Widths.{half-single, single-double}
 use Rattle.binary.proofs.Laws.{widened-keeps, narrowed-sound, narrowed-complete}
 use Rattle.cast.specs.Variants.{width, value, inRange}
-use Rattle.cast.specs.Casts.{cast}
+use Rattle.cast.specs.Casts.{cast, castable}
+use Rattle.cast.specs.Casts as Casts
+use Rattle.float.specs.Values.{asF32}
 use Rattle.cast.specs.Froms.{from}
 use Rattle.cast.proofs.Made.{cast-from}
 use Rattle.float_cast.specs.Integral.{one, clamped, integral}
@@ -53,6 +59,7 @@ use Rattle.promises.proofs.Entries as Entries
 use Rattle.promises.proofs.Stops as Stops
 use Rattle.promises.proofs.Demand2 as Demand2
 use Rattle.promises.proofs.Integrals as Integrals
+use Rattle.promises.proofs.FloatCasts as FloatCasts
 
 -- 1: AN ATOM IS READ, OR REFUSED BY A ROW of document 01's table, by its number, with the place, the budget and the scratch that
 -- the row says.
@@ -176,6 +183,34 @@ demand2-integrals k w = record {
   infinity = λ s. refl;
   not-a-number = λ s t. refl;
 }
+
+-- AN INTEGER IS A FLOAT if it is an i32 from -2^24 to 2^24 - 1, or an i64 from -2^53 to 2^53 - 1 (`mag z` is n for n and for
+-- -(n + 1)).
+pub record WholeFloatRows (x : Integer) : Type 0 where
+  pub f32-taken : castable signed w32 x ≡ true → mag (value x) < 2 ^ 24 → Casts.asF32 x ≡ AsF32.Value (ofInt binary32 (value x))
+  pub f32-outside : castable signed w32 x ≡ true → 2 ^ 24 ≤ mag (value x) → Casts.asF32 x ≡ AsF32.Refused R.ImpreciseCastWouldLoseData
+  pub f32-no-i32 : castable signed w32 x ≡ false → Casts.asF32 x ≡ AsF32.Refused R.ImpreciseCastWouldLoseData
+  pub f64-taken : castable signed w64 x ≡ true → mag (value x) < 2 ^ 53 → Casts.asF64 x ≡ AsF64.Value (ofInt binary64 (value x))
+  pub f64-outside : castable signed w64 x ≡ true → 2 ^ 53 ≤ mag (value x) → Casts.asF64 x ≡ AsF64.Refused R.ImpreciseCastWouldLoseData
+  pub f64-no-i64 : castable signed w64 x ≡ false → Casts.asF64 x ≡ AsF64.Refused R.ImpreciseCastWouldLoseData
+
+pub demand2-whole-floats : (x : Integer) → WholeFloatRows x
+demand2-whole-floats x = record {
+  f32-taken = FloatCasts.f32-taken x;
+  f32-outside = FloatCasts.f32-outside x;
+  f32-no-i32 = FloatCasts.f32-no-i32 x;
+  f64-taken = FloatCasts.f64-taken x;
+  f64-outside = FloatCasts.f64-outside x;
+  f64-no-i64 = FloatCasts.f64-no-i64 x;
+}
+
+-- AN F64 IS AN F32 if binary32 has a pattern of the same meaning.
+pub record NarrowedRows (x : Float) : Type 0 where
+  pub equal : (pattern : ℕ) → pattern < 2 * Formats.signWeight single → Formats.Number (meaning single pattern) → meaning single pattern ≡ floatMeaning x → asF32 (F.F64 x) ≡ AsF32.Value x
+  pub none-equal : ((pattern : ℕ) → pattern < 2 * Formats.signWeight single → Formats.Number (meaning single pattern) → meaning single pattern ≡ floatMeaning x → ⊥) → asF32 (F.F64 x) ≡ AsF32.Refused R.ImpreciseCastWouldLoseData
+
+pub demand2-narrowed : (x : Float) → T (fits binary64 x) → NarrowedRows x
+demand2-narrowed x f = record { equal = FloatCasts.equal-taken x f; none-equal = FloatCasts.unequal-refused x f }
 
 -- 3: THE PRICE OF A FILE IS EXACT. Of whole, known atoms whose charges sum to C:
 pub record Priced (s : List ℕ) (atoms : List (List ℕ)) : Type 0 where

@@ -25,6 +25,7 @@ pub mod Demand1
 pub mod Entries
 pub mod Stops
 pub mod Integrals
+pub mod FloatCasts
 pub mod Demand2
 pub mod Demands
 pub mod Starred
