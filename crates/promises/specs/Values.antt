@@ -56,7 +56,8 @@ pub data Value : Type 0 where
   string : (bytes : List ℕ) → length bytes < 2 ^ 64 → Value
   header : (kind : Kind) → HeaderOnly kind → (arg : ℕ) → arg < 2 ^ 64 → Value
 
--- what is written of it, by the definitions that the writers' contracts cite
+-- what is written of it, by the definitions that the writers' contracts cite; the bytes of a float's value are those of its pattern,
+-- by which `write_f32` and `write_f64` say them
 abbrev pub written : Value → List ℕ
 written (number z h) = Writers.signedBytes z
 written (natural k h) = Writers.unsignedBytes k
