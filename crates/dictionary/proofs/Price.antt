@@ -22,6 +22,7 @@ use Rattle.types.specs.declared.Kind.{Kind}
 use Rattle.types.specs.declared.Kind.the-variants as K
 use Rattle.header.proofs.Fewest.{length-bounds}
 use Rattle.dictionary.specs.Wholes.{known, bodyLength, isString, unknown, IsAtom, price, bodyBytes, lettersIn, Atoms, none, more, total, Spoilt, cut-header, not-known, cut-body}
+use Rattle.dictionary.specs.Prices.{priced, Short, Made, Broken}
 use Rattle.dictionary.specs.Runs.{runFrom, runAll, tallyFrom, tallyAll, nothing, mostBytes, unlimited}
 use Rattle.dictionary.proofs.Steps.{price-bound}
 use Rattle.dictionary.proofs.Turns.{run-on, run-stop, run-end, tally-on, tally-stop, tally-end}
@@ -93,10 +94,6 @@ summed-total a b c l (atom ∷ atoms) =
     counted : (n k : ℕ) → n + 1 + k ≡ n + suc k
     counted n k = omega arith
 
--- what it answers of such a list
-abbrev pub priced : List (List ℕ) → Tallied
-priced atoms = tallied (length atoms) (total bodyBytes atoms) (total price atoms) (total lettersIn atoms)
-
 summed-all : (atoms : List (List ℕ)) → summed nothing atoms ≡ priced atoms
 summed-all atoms = summed-total 0 0 0 0 atoms ∙ same-tallied (none-yet (length atoms)) (none-yet (total bodyBytes atoms)) (none-yet (total price atoms)) (none-yet (total lettersIn atoms))
   where
@@ -159,17 +156,7 @@ run-priced s atoms budget w c =
     run-over s w [] (suc (length s)) (suc (length s - length atoms)) 0 (length s) budget (budget - total price atoms) 0 (length atoms) (fuel-left (length atoms) (length s) most) e c refl k (omega arith) (sym (append-nil s))
     ∙ run-end s (suc (length s - length atoms)) (length s - length atoms) (length s) (record { 0 = budget - total price atoms }) (length atoms) refl (omega arith)
 
--- 3: A RUN WITH A SMALLER BUDGET is refused with 5 at the first atom whose running sum passes it, with the budget less the
--- earlier charges left, at that atom's start
-pub record Short (ran : Ran) (budget at n : ℕ) (atoms : List (List ℕ)) : Type 0 where
-  pub before : List (List ℕ)
-  pub atom : List ℕ
-  pub after : List (List ℕ)
-  pub split : atoms ≡ before ++ (atom ∷ after)
-  pub covered : total price before ≤ budget
-  pub passes : budget < total price before + price atom
-  pub stops : ran ≡ RN.Stopped (record { 0 = at + total length before + headerLength atom }) (record { 0 = budget - total price before }) (n + length before) R.TooManyBytesRead (record { 0 = at + total length before })
-
+-- 3: A RUN WITH A SMALLER BUDGET is refused with 5 at the first atom whose running sum passes it
 same-stop : {p p′ b b′ n n′ q q′ : ℕ} → p ≡ p′ → b ≡ b′ → n ≡ n′ → q ≡ q′ → RN.Stopped (record { 0 = p }) (record { 0 = b }) n R.TooManyBytesRead (record { 0 = q }) ≡ RN.Stopped (record { 0 = p′ }) (record { 0 = b′ }) n′ R.TooManyBytesRead (record { 0 = q′ })
 same-stop {p} {p′} {b} {b′} {n} {n′} {q} {q′} w x y z =
     ap (λ (i : ℕ). RN.Stopped (record { 0 = i }) (record { 0 = b }) n R.TooManyBytesRead (record { 0 = q })) w
@@ -274,19 +261,6 @@ pub run-short : (s : List ℕ) (atoms : List (List ℕ)) (budget : ℕ) → Atom
 run-short s atoms budget w c = run-short-at s w (suc (length s)) 0 budget 0 (omega arith) c (omega arith) refl
 
 -- EVERY OTHER INPUT: whole, known atoms up to one that is not
-pub record Broken (s : List ℕ) : Type 0 where
-  pub front-bytes : List ℕ
-  pub rest : List ℕ
-  pub atoms : List (List ℕ)
-  pub why : Refusal
-  pub wholes : Atoms front-bytes atoms
-  pub joined : s ≡ front-bytes ++ rest
-  pub some : 1 ≤ length rest
-  pub spoilt : Spoilt rest why
-
-pub record Made (s : List ℕ) : Type 0 where
-  pub atoms : List (List ℕ)
-  pub wholes : Atoms s atoms
 
 -- the tally refuses there, with that atom's own refusal
 broken-at : (s front rest : List ℕ) (atoms : List (List ℕ)) (why : Refusal) → length s ≤ mostBytes → Atoms front atoms → s ≡ front ++ rest → 1 ≤ length rest → Spoilt rest why → tallyAll s ≡ TA.Stopped (record { 0 = length front }) why

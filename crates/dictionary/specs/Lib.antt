@@ -2,3 +2,4 @@ pub mod Letters
 pub mod Wholes
 pub mod Steps
 pub mod Runs
+pub mod Prices

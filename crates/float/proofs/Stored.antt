@@ -15,7 +15,7 @@ use Rattle.binary.proofs.Widths.{half-single}
 use Rattle.binary.proofs.Laws.{narrowed-sound, narrowed-lost, narrowed-nan, narrowed-zero, narrowed-infinite, widened-lt, widened-keeps, widened-narrowed, widened-nan}
 use Rattle.binary.proofs.Values.{ofBits-means, narrowed-value}
 use Rattle.float.specs.Floats.{allowedFloat, floatOf, layoutAt}
-use Rattle.float.specs.Bytes.{floatBytes, f32Bytes, f64Bytes, storedBytes}
+use Rattle.float.specs.Bytes.{floatBytes, f32Bytes, f64Bytes}
 use Rattle.float.specs.Values.{floatValue, floatMeans}
 use Rattle.float.proofs.Counts.{Allowed, two, four, eight, allowed-is, is-allowed}
 use Rattle.float.proofs.Writes.{f32-short, f32-own, f64-short, f64-own}
@@ -176,14 +176,6 @@ module _ (b : ℕ) (B : b < 256 ^ 8) where
   pub stored-double : Stored 8 b (f64Bytes b)
   stored-double = double-by (narrowed double single b) refl
 
--- ---- any width
-
-pub stored-any : (c b : ℕ) → Allowed c → b < 256 ^ c → Stored c b (storedBytes c b)
-unfolding storedBytes
-stored-any c b (two e) h = rw e (stored-half b (at-count c 2 b e h))
-stored-any c b (four e) h = rw e (stored-single b (at-count c 4 b e h))
-stored-any c b (eight e) h = rw e (stored-double b (at-count c 8 b e h))
-
 -- ---- what is stored goes by the value alone
 
 pub pattern-lt : (c q : ℕ) → Allowed c → q < 256 ^ c → q < 2 * signWeight (layoutAt c)
@@ -212,26 +204,6 @@ one-form own bits own′ bits′ bytes bytes′ S S′ n e =
     (pattern-lt (S′ .count) (S .stored) a′ (at-count (S .count) (S′ .count) (S .stored) c (S .its-room)))
     (pattern-lt (S′ .count) (S′ .stored) a′ (S′ .its-room)) m in
     S .its-bytes ∙ ap (λ (x : ℕ). floatBytes x (S .stored)) c ∙ ap (floatBytes (S′ .count)) q ∙ sym (S′ .its-bytes)
-
--- what the writers wrote, written anew, stays
-pub stays : (own bits : ℕ) → Allowed own → bits < 256 ^ own → (S : Stored own bits (storedBytes own bits)) → storedBytes (S .count) (S .stored) ≡ floatBytes (S .count) (S .stored)
-stays own bits a h S = go (meaning (layoutAt own) bits) refl
-  where
-    again : Stored (S .count) (S .stored) (storedBytes (S .count) (S .stored))
-    again = stored-any (S .count) (S .stored) (allowed-is (S .count) (S .its-count)) (S .its-room)
-
-    kept : Number (meaning (layoutAt own) bits) → storedBytes (S .count) (S .stored) ≡ floatBytes (S .count) (S .stored)
-    kept n =
-        one-form (S .count) (S .stored) own bits (storedBytes (S .count) (S .stored)) (storedBytes own bits) again S
-        (number-of (meaning (layoutAt (S .count)) (S .stored)) (meaning (layoutAt own) bits) (S .number n) n) (S .number n)
-        ∙ S .its-bytes
-
-    go : (m : Meaning) → meaning (layoutAt own) bits ≡ m → storedBytes (S .count) (S .stored) ≡ floatBytes (S .count) (S .stored)
-    go (finite s m) e = kept (number-of (meaning (layoutAt own) bits) (finite s m) e tt)
-    go (infinite s) e = kept (number-of (meaning (layoutAt own) bits) (infinite s) e tt)
-    go (nan s t) e =
-        let k = S .nan-kept s t e in
-        ap (λ (x : ℕ). storedBytes x (S .stored)) (k .0) ∙ ap (storedBytes own) (k .1) ∙ S .its-bytes
 
 -- ---- "Both zeros and both infinities take 2 bytes."
 

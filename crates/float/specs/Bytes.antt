@@ -4,9 +4,7 @@
 -- none of a NaN; that these are the fewest bytes is proved in `proofs/Stored.antt`.
 use Prim.Native.Nat.{ℕ, _-_}
 use mathlib.Core.List.{List, _++_}
-use lib.Dec.{eqb}
 use lib.Ieee.{binary32, binary64, toBits}
-use Rattle.types.specs.Choice.{pick}
 use Rattle.types.specs.declared.Kind.the-variants as K
 use Rattle.types.specs.declared.Float.{Float}
 use Rattle.types.specs.declared.Float.the-variants as F
@@ -31,11 +29,6 @@ f32Bytes bits = narrowest (narrowed single half bits) (floatBytes 2) (floatBytes
 -- "`write_f64` uses 2, else 4, else 8": of a binary64 pattern
 unfoldable pub f64Bytes : ℕ → List ℕ
 f64Bytes bits = narrowest (narrowed double single bits) f32Bytes (floatBytes 8 bits)
-
--- bits as they were stored in that many bytes, an allowed count, written anew; "A NaN keeps its width and bits as stored, also
--- at 2 bytes"
-unfoldable pub storedBytes : ℕ → ℕ → List ℕ
-storedBytes count bits = pick (eqb count 2) (floatBytes 2 bits) (pick (eqb count 4) (f32Bytes bits) (f64Bytes bits))
 
 -- a float's value; of the one NaN that a value can be, the pattern is the one with the quiet bit alone
 unfoldable pub valueBytes : Float → List ℕ

@@ -1,107 +1,225 @@
 -- THE THREE DEMANDS, of the definitions that the contracts cite. What each rests on stands in the modules that it names.
-use mathlib.Core.Path.{_≡_, refl, _∙_, sym, ap}
-use mathlib.Core.Bool.{true}
+use mathlib.Core.Path.{_≡_, refl}
+use mathlib.Core.Bool.{Bool, true, false, _&&_}
 use mathlib.Core.Logic.{_⊎_, inl, inr, ⊎-elim}
-use mathlib.Core.List.{List, [], _∷_, _++_, append-assoc}
-use Prim.Native.Nat.{ℕ, _+_, _-_, _*_, _≤_, _<_, _^_}
-use native.Mathlib.Omega.{arith}
-use lib.ListN.{length, length-append}
-use Rattle.types.specs.Kinds.{specialCode}
+use mathlib.Core.List.{List, []}
+use Prim.Native.Nat.{ℕ, suc, _-_, _*_, _%_, _^_, _≤_, _<_}
+use lib.Dec.{leb, T}
+use lib.IntN.{ℤ, pos}
+use lib.ListN.{length}
+use lib.Signed.{mag}
+use lib.Ieee.{Format, Float, binary32, binary64, fits, ofBits, ofInt}
+use mir.Syntax.{Sign, signed, Width, w32, w64}
+use mir.Val.{bytes, hbits}
+use borrow.Author.Tests.{le-leb, lt-leb}
+use Rattle.types.specs.Choice.{pick}
 use Rattle.types.specs.declared.Way.{Way}
+use Rattle.types.specs.declared.Way.the-variants as W
 use Rattle.types.specs.declared.Place.{Place}
 use Rattle.types.specs.declared.Budget.{Budget}
-use Rattle.types.specs.declared.Kind.the-variants as K
-use Rattle.types.specs.declared.Atom.{Atom}
-use Rattle.types.specs.declared.Nucleus.the-variants as N
+use Rattle.types.specs.declared.Kind.{Kind}
+use Rattle.types.specs.declared.Integer.{Integer}
+use Rattle.types.specs.declared.Refusal.{Refusal}
+use Rattle.types.specs.declared.Refusal.the-variants as R
+use Rattle.types.specs.declared.HeaderAnswer.{HeaderAnswer}
+use Rattle.types.specs.declared.HeaderAnswer.the-variants as H
 use Rattle.types.specs.declared.AtomAnswer.the-variants as A
+use Rattle.types.specs.declared.Float.the-variants as F
+use Rattle.types.specs.declared.AsInteger.the-variants as AsInteger
+use Rattle.types.specs.declared.AsF32.the-variants as AsF32
+use Rattle.types.specs.declared.AsF64.the-variants as AsF64
 use Rattle.types.specs.declared.Ran.the-variants as RN
 use Rattle.types.specs.declared.TallyAnswer.the-variants as TA
-use Rattle.header.specs.Header.{headerBytes, headerRead}
-use Rattle.little.specs.Counts.{shortestS, shortestU}
-use Rattle.little.specs.Twos.{twosBits}
-use Rattle.integer.specs.Integers.{intOf, uintOf}
-use Rattle.float.specs.Floats.{floatOf}
-use Rattle.float.proofs.Counts.{allowed-is}
-use Rattle.float.proofs.Stored.{Stored, stored-any, meaning-kept}
-use Rattle.reader.specs.Strings.{stringMark}
-use Rattle.reader.specs.Parts.{markedBytes}
-use Rattle.atom.specs.Charges.{numberCharge}
-use Rattle.atom.specs.Atoms.{atomOf, specialNucleus, atomRead, atomScratch}
-use Rattle.atom.proofs.Back.{bytes-back, special-back}
+use Rattle.header.specs.Header.{headerRead}
+use Rattle.binary.specs.Formats.{Layout, half, single, double, finite, infinite, nan, meaning, SameValue}
+use Rattle.binary.specs.Formats as Formats
+use Rattle.binary.specs.Conversions.{widened, narrowed, exact}
+use Rattle.binary.specs.Floats.{floatMeaning, plain, layoutOf}
+use Rattle.binary.proofs.Values.{ofBits-means}
+use Rattle.binary.proofs.Widths.{half-single, single-double}
+use Rattle.binary.proofs.Laws.{widened-keeps, narrowed-sound, narrowed-complete}
+use Rattle.cast.specs.Variants.{width, value, inRange}
+use Rattle.cast.specs.Casts.{cast, castable}
+use Rattle.cast.specs.Casts as Casts
+use Rattle.float.specs.Values.{asF32}
+use Rattle.cast.specs.Froms.{from}
+use Rattle.cast.proofs.Made.{cast-from}
+use Rattle.float_cast.specs.Integral.{one, clamped, integral}
+use Rattle.atom.specs.Atoms.{atomRead, atomScratch}
 use Rattle.dictionary.specs.Runs.{runAll, tallyAll, mostBytes}
 use Rattle.dictionary.specs.Wholes.{Atoms, total, price, bodyBytes}
+use Rattle.dictionary.specs.Prices.{priced, Short, Made, Broken}
 use Rattle.dictionary.proofs.Price as Price
-use Rattle.promises.specs.Rows.{Row}
-use Rattle.promises.specs.Values.{Value, signed, unsigned, float, special, string, written, roomFor, Carries, signed-carried, unsigned-carried, float-carried, special-carried, string-carried}
+use Rattle.promises.specs.Told.{Told, toldAtom}
+use Rattle.promises.specs.Rows.{Row, Good, shown}
+use Rattle.promises.specs.Entries.{KindRows, SpecialRows, HeaderRows, SignatureRows, BudgetRows, IntegerRows, FloatRows, StringRows, RawRows, WriterRows, HeldRows, LengthRows}
+use Rattle.promises.specs.Values.{Value, written, roomFor, ReadBack}
 use Rattle.promises.proofs.Demand1 as Demand1
+use Rattle.promises.proofs.Entries as Entries
+use Rattle.promises.proofs.Stops as Stops
 use Rattle.promises.proofs.Demand2 as Demand2
+use Rattle.promises.proofs.Integrals as Integrals
+use Rattle.promises.proofs.FloatCasts as FloatCasts
 
--- 1: an atom is read, or refused by a row of document 01's table, with the place, the budget and the scratch that the row says.
-pub demand1 : (way : Way) (s : List ℕ) (place : ℕ) (budget : Budget) (scratch : List ℕ) → Row way s budget scratch (headerRead way s place) (atomRead way s place budget scratch) (atomScratch way s place budget scratch)
-demand1 = Demand1.refused-by-the-table
+-- 1: AN ATOM IS READ, OR REFUSED BY A ROW of document 01's table, by its number, with the place, the budget and the scratch that
+-- the row says.
+pub demand1 : (way : Way) (s : List ℕ) (place : ℕ) (budget : Budget) (scratch : List ℕ) → Row way s budget scratch (headerRead way s place) (toldAtom (atomRead way s place budget scratch)) (atomScratch way s place budget scratch)
+demand1 = Demand1.by-the-table
 
--- the charge of what was written
-abbrev pub chargeFor : Value → ℕ
-chargeFor (signed z h) = numberCharge (shortestS z)
-chargeFor (unsigned k h) = numberCharge (shortestU k)
-chargeFor (float own bits a h) = numberCharge (stored-any own bits (allowed-is own a) h .count)
-chargeFor (special s) = 0
-chargeFor (string bytes h) = length bytes
+-- At most one row fits: the table leaves one answer, but for what the atom holds, and one scratch.
+pub demand1-one : {way : Way} {s : List ℕ} {budget : Budget} {scratch : List ℕ} {header : HeaderAnswer} {a b : Told} {t u : List ℕ} → Row way s budget scratch header a t → Row way s budget scratch header b u → (shown a ≡ shown b) × (t ≡ u)
+demand1-one = Demand1.one-row
 
--- an atom that is read just past what was written, for its charge, and carries the value
-pub record ReadBack (way : Way) (before after : List ℕ) (budget : Budget) (scratch : List ℕ) (value : Value) : Type 0 where
-  pub atom : Atom
-  pub is-read : atomRead way (before ++ (written value ++ after)) (length before) budget scratch ≡ A.Read (record { 0 = length before + length (written value) }) (record { 0 = budget .0 - chargeFor value }) atom
-  pub carries : Carries (before ++ (written value ++ after)) (atomScratch way (before ++ (written value ++ after)) (length before) budget scratch) (atom .nucleus) value
+-- Bad input is refused: what is read has a header, and is good past it;
+pub demand1-bad : (way : Way) (s : List ℕ) (place : ℕ) (budget : Budget) (scratch : List ℕ) → toldAtom (atomRead way s place budget scratch) .number ≡ 0 → (next : Place) × (kind : Kind) × (arg : ℕ) × (headerRead way s place ≡ H.Read next kind arg) × Good way s budget scratch next kind arg
+demand1-bad way s place budget scratch e = Demand1.good-row (demand1 way s place budget scratch) e
 
-less-nothing : (n : ℕ) → n ≡ n - 0
-less-nothing n = omega arith
+-- and nothing else is: what is good past its header is read.
+pub demand1-good : (way : Way) (s : List ℕ) (place : ℕ) (budget : Budget) (scratch : List ℕ) (next : Place) (kind : Kind) (arg : ℕ) → headerRead way s place ≡ H.Read next kind arg → Good way s budget scratch next kind arg → toldAtom (atomRead way s place budget scratch) .number ≡ 0
+demand1-good way s place budget scratch next kind arg e g = Demand1.good-read e (demand1 way s place budget scratch) g
+
+-- THE OTHER ENTRIES, each by its rows.
+pub demand1-kind : (code : ℕ) → KindRows code
+demand1-kind = Entries.kinds
+
+pub demand1-special : (arg : ℕ) → SpecialRows arg
+demand1-special = Entries.specials
+
+pub demand1-header : (way : Way) (s : List ℕ) (place : ℕ) → HeaderRows way s place
+demand1-header = Entries.headers
+
+pub demand1-signature : (way : Way) (s : List ℕ) (place : ℕ) → SignatureRows way s place
+demand1-signature = Entries.signatures
+
+pub demand1-budget : (budget : Budget) (charge : ℕ) → BudgetRows budget charge
+demand1-budget = Entries.budgets
+
+pub demand1-integer : (way : Way) (s : List ℕ) (place : ℕ) (kind : Kind) (count : ℕ) → IntegerRows way s place kind count
+demand1-integer = Entries.integers
+
+pub demand1-float : (way : Way) (s : List ℕ) (place : ℕ) (kind : Kind) (count : ℕ) → FloatRows way s place kind count
+demand1-float = Entries.floats
+
+pub demand1-string : (way : Way) (s : List ℕ) (place n : ℕ) (scratch : List ℕ) → StringRows way s place n scratch
+demand1-string = Entries.strings
+
+pub demand1-raw : (way : Way) (s : List ℕ) (place : ℕ) (buffer : List ℕ) → RawRows way s place buffer
+demand1-raw = Entries.raws
+
+pub demand1-writer : (bytes old : List ℕ) → WriterRows bytes old
+demand1-writer = Entries.writers
+
+pub demand1-held : (held : Bool) (bytes old : List ℕ) → HeldRows held bytes old
+demand1-held = Entries.helds
+
+pub demand1-length : (s : List ℕ) → LengthRows s
+demand1-length = Entries.lengths
+
+-- A run that stops does so by the refusal of the atom where it says that this starts, with that refusal's place and budget.
+pub demand1-run : (s : List ℕ) (budget : Budget) (place : Place) (rest : Budget) (atoms : ℕ) (why : Refusal) (start : Place) → runAll s budget ≡ RN.Stopped place rest atoms why start → (left : Budget) × (atomRead W.ExactLent s (start .0) left [] ≡ A.Refused place rest why)
+demand1-run s budget place rest atoms why start e = Stops.stops s place rest atoms why start (suc (length s)) 0 budget 0 e
 
 -- 2: WHAT WAS WRITTEN READS BACK as the value written: every value, every way, anything before and after it, any budget of at
--- least the charge, any scratch with room.
-pub demand2 : (way : Way) (before after : List ℕ) (budget : Budget) (scratch : List ℕ) (value : Value) → chargeFor value ≤ budget .0 → roomFor way value ≤ length scratch → ReadBack way before after budget scratch value
-demand2 way before after budget scratch (signed z h) b r =
-    let w = Demand2.signed-back way z before after budget scratch h b in
-    record { atom = atomOf K.Int (shortestS z - 1) (N.Integer (intOf (shortestS z) (twosBits (shortestS z) z))); is-read = w .0; carries = signed-carried (w .1) }
-demand2 way before after budget scratch (unsigned k h) b r =
-    let w = Demand2.unsigned-back way k before after budget scratch h b in
-    record { atom = atomOf K.UInt (shortestU k - 1) (N.Integer (uintOf (shortestU k) k)); is-read = w .0; carries = unsigned-carried (w .1) }
-demand2 way before after budget scratch (float own bits a h) b r =
-    let S = stored-any own bits (allowed-is own a) h in
-    record {
-      atom = atomOf K.Float (S .count - 1) (N.Float (floatOf (S .count) (S .stored)) (S .stored));
-      is-read = Demand2.float-back way own bits (written (float own bits a h)) before after S budget scratch b;
-      carries = float-carried (meaning-kept own bits (written (float own bits a h)) (allowed-is own a) S) (λ s t e. S .nan-kept s t e .1);
-    }
-demand2 way before after budget scratch (special s) b r =
-    record {
-      atom = atomOf K.Special (specialCode s) (specialNucleus s);
-      is-read = special-back way s before after budget scratch ∙ ap (λ (n : ℕ). A.Read (record { 0 = length before + length (written (special s)) }) (record { 0 = n }) (atomOf K.Special (specialCode s) (specialNucleus s))) (less-nothing (budget .0));
-      carries = special-carried;
-    }
-demand2 way before after budget scratch (string bytes h) b r =
-    let n : ℕ = length bytes in
-    let hd : List ℕ = headerBytes K.Bytes n in
-    let mark = stringMark way (length before + length hd) n in
-    let left : Budget = record { 0 = budget .0 - n } in
-    let joined : before ++ ((hd ++ bytes) ++ after) ≡ before ++ (hd ++ (bytes ++ after)) = ap (λ (l : List ℕ). before ++ l) (append-assoc hd bytes after) in
-    let end : length before + length hd + n ≡ length before + length (hd ++ bytes) = let l = length-append hd bytes in omega arith in
-    record {
-      atom = atomOf K.Bytes n (N.Bytes mark);
-      is-read = ap (λ (l : List ℕ). atomRead way l (length before) budget scratch) joined
-          ∙ bytes-back way before bytes after budget scratch h b r
-          ∙ ap (λ (p : ℕ). A.Read (record { 0 = p }) left (atomOf K.Bytes n (N.Bytes mark))) end;
-      carries = string-carried (ap (λ (l : List ℕ). markedBytes mark l (atomScratch way l (length before) budget scratch)) joined ∙ Demand2.bytes-delivered way before bytes after budget scratch h b r);
-    }
+-- least the price, any scratch with room.
+pub demand2 : (way : Way) (before after : List ℕ) (budget : Budget) (scratch : List ℕ) (value : Value) → price (written value) ≤ budget .0 → roomFor way value ≤ length scratch → ReadBack way before after budget scratch value
+demand2 = Demand2.read-back
+
+-- FLOATS ARE THOSE OF IEEE 754: its sign and magnitude, its infinities and NaNs are `binary.Formats.meaning`.
+pub record Ieee754 : Type 0 where
+  -- the value of a pattern is what it means
+  pub valued : (format : Format) (bits : ℕ) → floatMeaning (ofBits format bits) ≡ plain (meaning (layoutOf format) bits)
+  -- widening keeps it
+  pub widens-half : (bits : ℕ) → Formats.Number (meaning half bits) → meaning single (widened half single bits) ≡ meaning half bits
+  pub widens-single : (bits : ℕ) → Formats.Number (meaning single bits) → meaning double (widened single double bits) ≡ meaning single bits
+  -- narrowing answers a pattern of that value, and every one that there is
+  pub narrows : (from to : Layout) (bits pattern : ℕ) → narrowed from to bits ≡ exact pattern → SameValue from to bits pattern
+  pub narrows-all : (from to : Layout) (bits pattern : ℕ) → SameValue from to bits pattern → narrowed from to bits ≡ exact pattern
+
+pub demand2-floats : Ieee754
+demand2-floats = record {
+  valued = ofBits-means;
+  widens-half = widened-keeps half-single;
+  widens-single = widened-keeps single-double;
+  narrows = narrowed-sound;
+  narrows-all = narrowed-complete;
+}
+
+-- A CAST OF AN INTEGER ANSWERS ITS VALUE exactly if its variant is no wider and the value fits.
+pub record CastRows {X : Type 0} (sign : Sign) (target : Width) (taken : ℤ → X) (refused : Refusal → X) : Type 0 where
+  pub answered : (x : Integer) → bytes (width x) ≤ bytes target → inRange sign target (value x) ≡ true → cast sign target taken refused x ≡ taken (value x)
+  pub wider : (x : Integer) → bytes target < bytes (width x) → cast sign target taken refused x ≡ refused R.ImpreciseCastWouldLoseData
+  pub outside : (x : Integer) → inRange sign target (value x) ≡ false → cast sign target taken refused x ≡ refused R.ImpreciseCastWouldLoseData
+  -- and of what `From` made, exactly if the value fits
+  pub of-from : (s : Sign) (w : Width) (z : ℤ) → inRange s w z ≡ true → cast sign target taken refused (from s w z) ≡ pick (inRange sign target z) (taken z) (refused R.ImpreciseCastWouldLoseData)
+
+pub demand2-casts : {X : Type 0} (sign : Sign) (target : Width) (taken : ℤ → X) (refused : Refusal → X) → CastRows sign target taken refused
+unfolding cast
+demand2-casts sign target taken refused = record {
+  answered = λ x h k. simp (le-leb (bytes (width x)) (bytes target) h, k);
+  wider = λ x h. simp (lt-leb (bytes (width x)) (bytes target) h);
+  outside = λ x k. simp (k, never (leb (bytes (width x)) (bytes target)));
+  of-from = cast-from sign target taken refused;
+}
+  where
+    never : (b : Bool) → (b && false) ≡ false
+    never true = refl
+    never false = refl
+
+-- A FLOAT IS AN INTEGER if it is whole, clamped, or under the bound, as 0: of its meaning in units of 2^-1074, under 2^-k, to a
+-- width. An F32 goes by 23 and 32 bits, an F64 by 52 and 64.
+pub record IntegralRows (k : ℕ) (w : Width) : Type 0 where
+  pub whole : (s : Bool) (n : ℕ) → integral k w (finite s (n * one)) ≡ AsInteger.Value (from signed w (clamped (hbits w) s n))
+  pub small : (s : Bool) (m : ℕ) → m < 2 ^ (1074 - k) → integral k w (finite s m) ≡ AsInteger.Value (from signed w (pos 0))
+  pub fraction : (s : Bool) (m : ℕ) → 2 ^ (1074 - k) ≤ m → (m % one ≡ 0 → ⊥) → integral k w (finite s m) ≡ AsInteger.Refused R.ImpreciseCastWouldLoseData
+  pub infinity : (s : Bool) → integral k w (infinite s) ≡ AsInteger.Refused R.ImpreciseCastWouldLoseData
+  pub not-a-number : (s : Bool) (t : ℕ) → integral k w (nan s t) ≡ AsInteger.Refused R.ImpreciseCastWouldLoseData
+
+pub demand2-integrals : (k : ℕ) (w : Width) → IntegralRows k w
+unfolding integral
+demand2-integrals k w = record {
+  whole = Integrals.whole-taken k w;
+  small = Integrals.small-taken k w;
+  fraction = Integrals.fraction-refused k w;
+  infinity = λ s. refl;
+  not-a-number = λ s t. refl;
+}
+
+-- AN INTEGER IS A FLOAT if it is an i32 from -2^24 to 2^24 - 1, or an i64 from -2^53 to 2^53 - 1 (`mag z` is n for n and for
+-- -(n + 1)).
+pub record WholeFloatRows (x : Integer) : Type 0 where
+  pub f32-taken : castable signed w32 x ≡ true → mag (value x) < 2 ^ 24 → Casts.asF32 x ≡ AsF32.Value (ofInt binary32 (value x))
+  pub f32-outside : castable signed w32 x ≡ true → 2 ^ 24 ≤ mag (value x) → Casts.asF32 x ≡ AsF32.Refused R.ImpreciseCastWouldLoseData
+  pub f32-no-i32 : castable signed w32 x ≡ false → Casts.asF32 x ≡ AsF32.Refused R.ImpreciseCastWouldLoseData
+  pub f64-taken : castable signed w64 x ≡ true → mag (value x) < 2 ^ 53 → Casts.asF64 x ≡ AsF64.Value (ofInt binary64 (value x))
+  pub f64-outside : castable signed w64 x ≡ true → 2 ^ 53 ≤ mag (value x) → Casts.asF64 x ≡ AsF64.Refused R.ImpreciseCastWouldLoseData
+  pub f64-no-i64 : castable signed w64 x ≡ false → Casts.asF64 x ≡ AsF64.Refused R.ImpreciseCastWouldLoseData
+
+pub demand2-whole-floats : (x : Integer) → WholeFloatRows x
+demand2-whole-floats x = record {
+  f32-taken = FloatCasts.f32-taken x;
+  f32-outside = FloatCasts.f32-outside x;
+  f32-no-i32 = FloatCasts.f32-no-i32 x;
+  f64-taken = FloatCasts.f64-taken x;
+  f64-outside = FloatCasts.f64-outside x;
+  f64-no-i64 = FloatCasts.f64-no-i64 x;
+}
+
+-- AN F64 IS AN F32 if binary32 has a pattern of the same meaning.
+pub record NarrowedRows (x : Float) : Type 0 where
+  pub equal : (pattern : ℕ) → pattern < 2 * Formats.signWeight single → Formats.Number (meaning single pattern) → meaning single pattern ≡ floatMeaning x → asF32 (F.F64 x) ≡ AsF32.Value x
+  pub none-equal : ((pattern : ℕ) → pattern < 2 * Formats.signWeight single → Formats.Number (meaning single pattern) → meaning single pattern ≡ floatMeaning x → ⊥) → asF32 (F.F64 x) ≡ AsF32.Refused R.ImpreciseCastWouldLoseData
+
+pub demand2-narrowed : (x : Float) → T (fits binary64 x) → NarrowedRows x
+demand2-narrowed x f = record { equal = FloatCasts.equal-taken x f; none-equal = FloatCasts.unequal-refused x f }
 
 -- 3: THE PRICE OF A FILE IS EXACT. Of whole, known atoms whose charges sum to C:
 pub record Priced (s : List ℕ) (atoms : List (List ℕ)) : Type 0 where
   -- the tally reports C, the atoms, their body bytes and letters
-  pub reported : length s ≤ mostBytes → tallyAll s ≡ TA.Done (Price.priced atoms)
+  pub reported : length s ≤ mostBytes → tallyAll s ≡ TA.Done (priced atoms)
   -- any budget of at least C reads all and leaves the budget less C
   pub afforded : (budget : ℕ) → total price atoms ≤ budget → runAll s (record { 0 = budget }) ≡ RN.Done (record { 0 = length s }) (record { 0 = budget - total price atoms }) (length atoms)
   -- a smaller one is refused at the first atom whose running sum passes it
-  pub refused : (budget : ℕ) → budget < total price atoms → Price.Short (runAll s (record { 0 = budget })) budget 0 0 atoms
+  pub refused : (budget : ℕ) → budget < total price atoms → Short (runAll s (record { 0 = budget })) budget 0 0 atoms
   -- atoms never outnumber bytes
   pub atoms-bound : length atoms ≤ length s
   -- 3C is at most 4 times the body bytes
@@ -117,5 +235,5 @@ demand3 s atoms w = record {
 }
 
 -- and every other file is refused at the first atom that is not whole or not known, with that atom's own refusal
-pub demand3-otherwise : (s : List ℕ) → length s ≤ mostBytes → Price.Made s ⊎ ((broken : Price.Broken s) × (tallyAll s ≡ TA.Stopped (record { 0 = length (broken .front-bytes) }) (broken .why)))
+pub demand3-otherwise : (s : List ℕ) → length s ≤ mostBytes → Made s ⊎ ((broken : Broken s) × (tallyAll s ≡ TA.Stopped (record { 0 = length (broken .front-bytes) }) (broken .why)))
 demand3-otherwise s short = ⊎-elim inl (λ broken. inr (broken, Price.tally-broken s broken short)) (Price.judged s)

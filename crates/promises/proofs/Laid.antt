@@ -1,4 +1,5 @@
--- The layout of words at examples, by computing; rust/tests/layout.rs finds the same in the array that the library wrote.
+-- The layout of words has the number that each answer is told by; and the layout at examples, by computing:
+-- rust/tests/layout.rs finds the same in the array that the library wrote.
 use mathlib.Core.Path.{_≡_, refl}
 use Prim.Native.Nat.{_-_, _^_}
 use mathlib.Core.Bool.{true}
@@ -10,7 +11,55 @@ use Rattle.types.specs.declared.Refusal.the-variants as R
 use Rattle.types.specs.declared.AtomAnswer.the-variants as A
 use Rattle.types.specs.declared.Ran.the-variants as RN
 use Rattle.types.specs.declared.TallyAnswer.the-variants as TA
-use Rattle.words.specs.Layout.{says, saidAtom, saidRan, saidTally}
+use Rattle.types.specs.declared.AtomAnswer.{AtomAnswer}
+use Rattle.types.specs.declared.Skipped.{Skipped}
+use Rattle.types.specs.declared.Skipped.the-variants as SK
+use Rattle.types.specs.declared.Ran.{Ran}
+use Rattle.types.specs.declared.TallyAnswer.{TallyAnswer}
+use Rattle.types.specs.declared.VersionAnswer.{VersionAnswer}
+use Rattle.types.specs.declared.VersionAnswer.the-variants as VA
+use Rattle.types.specs.declared.Written.{Written}
+use Rattle.types.specs.declared.Written.the-variants as W
+use Rattle.types.specs.declared.AsInteger.{AsInteger}
+use Rattle.types.specs.declared.AsInteger.the-variants as In
+use Rattle.words.specs.Layout.{says, saidAtom, saidSkipped, saidRan, saidTally, saidVersion, saidWritten, saidAsInteger}
+use Rattle.promises.specs.Told.{toldAtom, toldSkipped, toldRan, toldTally, toldVersion, toldWritten, toldAsInteger}
+
+-- one number for an answer, told or laid out
+pub atom-number : (a : AtomAnswer) → saidAtom a .number ≡ toldAtom a .number
+unfolding saidAtom
+atom-number (A.Read p b x) = refl
+atom-number (A.Refused p b r) = refl
+
+pub skipped-number : (a : Skipped) → saidSkipped a .number ≡ toldSkipped a .number
+unfolding saidSkipped
+skipped-number (SK.Past p b body string) = refl
+skipped-number (SK.Refused p b r) = refl
+
+pub ran-number : (a : Ran) → saidRan a .number ≡ toldRan a .number
+unfolding saidRan
+ran-number (RN.Done p b atoms) = refl
+ran-number (RN.Stopped p b atoms r start) = refl
+
+pub tally-number : (a : TallyAnswer) → saidTally a .number ≡ toldTally a .number
+unfolding saidTally
+tally-number (TA.Done t) = refl
+tally-number (TA.Stopped start r) = refl
+
+pub version-number : (a : VersionAnswer) → saidVersion a .number ≡ toldVersion a .number
+unfolding saidVersion
+version-number (VA.Read p version) = refl
+version-number (VA.Refused p r) = refl
+
+pub written-number : (a : Written) → saidWritten a .number ≡ toldWritten a .number
+unfolding saidWritten
+written-number (W.Count n) = refl
+written-number (W.Refused r) = refl
+
+pub integer-number : (a : AsInteger) → saidAsInteger a .number ≡ toldAsInteger a .number
+unfolding saidAsInteger
+integer-number (In.Value x) = refl
+integer-number (In.Refused r) = refl
 
 -- `22 00 00 80` with budget 4: I32 -8388608
 pub integer-said : saidAtom (A.Read (record { 0 = 4 }) (record { 0 = 0 }) (record { kind = K.Int; arg = 2; nucleus = N.Integer (I.I32 (negsuc 8388607)) })) ≡ says 0 4 0 1 2 2 2 (2 ^ 64 - 8388608) (2 ^ 64 - 1)

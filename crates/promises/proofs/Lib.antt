@@ -23,6 +23,10 @@ pub mod Exactly
 pub mod Filled
 pub mod SameValue
 pub mod Demand1
+pub mod Entries
+pub mod Stops
+pub mod Integrals
+pub mod FloatCasts
 pub mod Demand2
 pub mod Demands
 pub mod Starred

@@ -29,7 +29,7 @@ same-twos : (n : ℕ) → toZ w128 n ≡ twos 16 n
 unfolding twos
 same-twos n = chosen (ltb n (256 ^ 16 / 2)) (256 ^ 16) n
 
-same-words : (w : Wide) → joined w ≡ wideBits w
+pub same-words : (w : Wide) → joined w ≡ wideBits w
 same-words w = add-comm (w .hi * 2 ^ 64) (w .lo) ∙ ap (λ (n : ℕ). w .lo + n) (mul-comm (w .hi) (2 ^ 64))
 
 pub same-value : (x : Integer) → value x ≡ integerValue x

@@ -1,15 +1,15 @@
--- This paper's number and values for the answers that carry an integer, a float, an atom or a budget; those of the other
--- answers stand in `types.Told`. "If an answer is an enum, a definition tells you this paper's number and values for each of
--- its cases." A float is told by its case: 0, its sign and its magnitude in units of 2^-1074; 1 and the sign of an infinity;
--- 2 of the NaN.
+-- This paper's number and values for each case of each answer. "If an answer is an enum, a definition tells you this paper's
+-- number and values for each of its cases. The promises use that definition." Number 0 says that the answer is no refusal. A
+-- float is told by its case: 0, its sign and its magnitude in units of 2^-1074; 1 and the sign of an infinity; 2 of the NaN.
 use Prim.Native.Nat.{ℕ}
-use mathlib.Core.Bool.{Bool}
-use mathlib.Core.List.{List, [], _∷_}
+use mathlib.Core.List.{List, [], _∷_, _++_, map}
 use lib.IntN.{ℤ, pos}
 use lib.Ieee as Ieee
+use mir.Syntax.{Sign, signed, unsigned}
+use mir.Val.{bits}
 use Rattle.types.specs.Choice.{pick}
-use Rattle.types.specs.Kinds.{kindCode}
-use Rattle.types.specs.Told.{Told, taken, refused}
+use Rattle.types.specs.Kinds.{kindCode, specialCode}
+use Rattle.types.specs.Refusals.{refusalNumber, refusalData}
 use Rattle.types.specs.declared.Integer.{Integer}
 use Rattle.types.specs.declared.Float.{Float}
 use Rattle.types.specs.declared.Float.the-variants as F
@@ -22,7 +22,7 @@ use Rattle.types.specs.declared.FloatAnswer.the-variants as FA
 use Rattle.types.specs.declared.AtomAnswer.{AtomAnswer}
 use Rattle.types.specs.declared.AtomAnswer.the-variants as A
 use Rattle.types.specs.declared.BudgetAnswer.{BudgetAnswer}
-use Rattle.types.specs.declared.BudgetAnswer.the-variants as BA
+use Rattle.types.specs.declared.BudgetAnswer.the-variants as GA
 use Rattle.types.specs.declared.AsI8.{AsI8}
 use Rattle.types.specs.declared.AsI8.the-variants as I8
 use Rattle.types.specs.declared.AsI16.{AsI16}
@@ -52,10 +52,93 @@ use Rattle.types.specs.declared.AsInteger.the-variants as In
 use Rattle.report.specs.declared.Report.{Report}
 use Rattle.report.specs.declared.Report.the-variants as RP
 use Rattle.cast.specs.Variants.{sign, width, value}
+use Rattle.binary.specs.declared.Narrowed16.{Narrowed16}
+use Rattle.binary.specs.declared.Narrowed16.the-variants as N16
+use Rattle.binary.specs.declared.Narrowed32.{Narrowed32}
+use Rattle.binary.specs.declared.Narrowed32.the-variants as N32
 use Rattle.binary.specs.Formats.{Meaning, finite, infinite, nan}
 use Rattle.binary.specs.Floats.{floatMeaning}
-use mir.Syntax.{Sign, signed, unsigned}
-use mir.Val.{bits}
+use Rattle.types.specs.declared.Refusal.{Refusal}
+use Rattle.types.specs.declared.KindAnswer.{KindAnswer}
+use Rattle.types.specs.declared.KindAnswer.the-variants as KA
+use Rattle.types.specs.declared.SpecialAnswer.{SpecialAnswer}
+use Rattle.types.specs.declared.SpecialAnswer.the-variants as SA
+use Rattle.types.specs.declared.Written.{Written}
+use Rattle.types.specs.declared.Written.the-variants as W
+use Rattle.types.specs.declared.HeaderAnswer.{HeaderAnswer}
+use Rattle.types.specs.declared.HeaderAnswer.the-variants as H
+use Rattle.types.specs.declared.VersionAnswer.{VersionAnswer}
+use Rattle.types.specs.declared.VersionAnswer.the-variants as VA
+use Rattle.types.specs.declared.BytesAnswer.{BytesAnswer}
+use Rattle.types.specs.declared.BytesAnswer.the-variants as BA
+use Rattle.types.specs.declared.RawAnswer.{RawAnswer}
+use Rattle.types.specs.declared.RawAnswer.the-variants as RA
+use Rattle.types.specs.declared.Skipped.{Skipped}
+use Rattle.types.specs.declared.Skipped.the-variants as SK
+use Rattle.types.specs.declared.Ran.{Ran}
+use Rattle.types.specs.declared.Ran.the-variants as RN
+use Rattle.types.specs.declared.TallyAnswer.{TallyAnswer}
+use Rattle.types.specs.declared.TallyAnswer.the-variants as TA
+
+-- the number, and the values in the order of the answer's fields
+pub record Told : Type 0 where
+  pub number : ℕ
+  pub values : List ℤ
+
+-- an answer of that number, with those values
+abbrev pub told : ℕ → List ℤ → Told
+told n vs = record { number = n; values = vs }
+
+-- an answer that is no refusal
+abbrev pub taken : List ℤ → Told
+taken vs = told 0 vs
+
+-- a refusal, after the values that stand before it: its number, and its data behind them
+abbrev pub refused : List ℤ → Refusal → Told
+refused vs r = told (refusalNumber r) (vs ++ map pos (refusalData r))
+
+abbrev pub toldKind : KindAnswer → Told
+toldKind (KA.Known k) = taken (pos (kindCode k) ∷ [])
+toldKind (KA.Refused r) = refused [] r
+
+abbrev pub toldSpecial : SpecialAnswer → Told
+toldSpecial (SA.Known s) = taken (pos (specialCode s) ∷ [])
+toldSpecial (SA.Refused r) = refused [] r
+
+abbrev pub toldWritten : Written → Told
+toldWritten (W.Count n) = taken (pos n ∷ [])
+toldWritten (W.Refused r) = refused [] r
+
+abbrev pub toldHeader : HeaderAnswer → Told
+toldHeader (H.Read p k a) = taken (pos (p .0) ∷ pos (kindCode k) ∷ pos a ∷ [])
+toldHeader (H.Refused p r) = refused (pos (p .0) ∷ []) r
+
+abbrev pub toldVersion : VersionAnswer → Told
+toldVersion (VA.Read p v) = taken (pos (p .0) ∷ pos v ∷ [])
+toldVersion (VA.Refused p r) = refused (pos (p .0) ∷ []) r
+
+-- a delivery mark as its start, its length, and 1 if lent, 0 if copied
+abbrev pub toldBytes : BytesAnswer → Told
+toldBytes (BA.Read p m) = taken (pos (p .0) ∷ pos (m .start) ∷ pos (m .len) ∷ pos (pick (m .lent) 1 0) ∷ [])
+toldBytes (BA.Refused p r) = refused (pos (p .0) ∷ []) r
+
+abbrev pub toldRaw : RawAnswer → Told
+toldRaw (RA.Read p n) = taken (pos (p .0) ∷ pos n ∷ [])
+toldRaw (RA.Refused p r) = refused (pos (p .0) ∷ []) r
+
+-- the step: a string is told by 1, another atom by 0
+abbrev pub toldSkipped : Skipped → Told
+toldSkipped (SK.Past p b body string) = taken (pos (p .0) ∷ pos (b .0) ∷ pos (body .0) ∷ pos (pick string 1 0) ∷ [])
+toldSkipped (SK.Refused p b r) = refused (pos (p .0) ∷ pos (b .0) ∷ []) r
+
+-- the run: the place where a refused atom starts stands before the refusal's data
+abbrev pub toldRan : Ran → Told
+toldRan (RN.Done p b atoms) = taken (pos (p .0) ∷ pos (b .0) ∷ pos atoms ∷ [])
+toldRan (RN.Stopped p b atoms r start) = refused (pos (p .0) ∷ pos (b .0) ∷ pos atoms ∷ pos (start .0) ∷ []) r
+
+abbrev pub toldTally : TallyAnswer → Told
+toldTally (TA.Stopped start r) = refused (pos (start .0) ∷ []) r
+toldTally (TA.Done t) = taken (pos (t .atoms) ∷ pos (t .body .0) ∷ pos (t .charge) ∷ pos (t .letters) ∷ [])
 
 -- an integer by its variant, signed or not and so many bits wide, and its value
 abbrev signTold : Sign → ℕ
@@ -65,7 +148,7 @@ signTold unsigned = 0
 abbrev pub integerTold : Integer → List ℤ
 integerTold x = pos (signTold (sign x)) ∷ pos (bits (width x)) ∷ value x ∷ []
 
-abbrev meaningTold : Meaning → List ℤ
+abbrev pub meaningTold : Meaning → List ℤ
 meaningTold (finite s m) = pos 0 ∷ pos (pick s 1 0) ∷ pos m ∷ []
 meaningTold (infinite s) = pos 1 ∷ pos (pick s 1 0) ∷ []
 meaningTold (nan s t) = pos 2 ∷ []
@@ -104,8 +187,8 @@ toldAtom (A.Read p b x) = taken (pos (p .0) ∷ pos (b .0) ∷ pos (kindCode (x 
 toldAtom (A.Refused p b r) = refused (pos (p .0) ∷ pos (b .0) ∷ []) r
 
 abbrev pub toldBudget : BudgetAnswer → Told
-toldBudget (BA.Left b) = taken (pos (b .0) ∷ [])
-toldBudget (BA.Refused r) = refused [] r
+toldBudget (GA.Left b) = taken (pos (b .0) ∷ [])
+toldBudget (GA.Refused r) = refused [] r
 
 abbrev pub toldAsI8 : AsI8 → Told
 toldAsI8 (I8.Value z) = taken (z ∷ [])
@@ -159,6 +242,15 @@ toldAsFloat (Fl.Refused r) = refused [] r
 abbrev pub toldAsInteger : AsInteger → Told
 toldAsInteger (In.Value x) = taken (integerTold x)
 toldAsInteger (In.Refused r) = refused [] r
+
+-- a narrower pattern, or none: no refusal either way
+abbrev pub toldNarrowed16 : Narrowed16 → Told
+toldNarrowed16 (N16.Pattern q) = taken (pos q ∷ [])
+toldNarrowed16 N16.None = taken []
+
+abbrev pub toldNarrowed32 : Narrowed32 → Told
+toldNarrowed32 (N32.Pattern q) = taken (pos q ∷ [])
+toldNarrowed32 N32.None = taken []
 
 -- what the tally program finds of a file
 abbrev pub toldReport : Report → Told

@@ -1,62 +1,114 @@
--- What the value writers can be given, what they write of it, and what it is for an atom to carry it. For demand 2: "what was
--- written reads back as the value written".
-use Prim.Native.Nat.{ℕ, _<_, _^_}
+-- What the value writers can be given, what their contracts say that they write of it, and what it is for an atom to carry it.
+-- For demand 2: "what was written reads back as the value written".
+use Prim.Native.Nat.{ℕ, _+_, _-_, _<_, _^_}
 use mathlib.Core.Path.{_≡_}
 use mathlib.Core.Bool.{Bool, true}
 use mathlib.Core.List.{List, _++_}
+use lib.Dec.{T}
 use lib.IntN.{ℤ, pos}
 use lib.ListN.{length}
+use lib.Ieee as Ieee
+use mir.Syntax.{Sign, signed, unsigned}
 use Rattle.types.specs.Kinds.{specialCode}
 use Rattle.types.specs.declared.Way.{Way}
+use Rattle.types.specs.declared.Kind.{Kind}
 use Rattle.types.specs.declared.Kind.the-variants as K
 use Rattle.types.specs.declared.Special.{Special}
 use Rattle.types.specs.declared.Mark.{Mark}
 use Rattle.types.specs.declared.Integer.{Integer}
 use Rattle.types.specs.declared.Float.{Float}
-use Rattle.types.specs.declared.Nucleus.{Nucleus}
+use Rattle.types.specs.declared.Float.the-variants as F
 use Rattle.types.specs.declared.Nucleus.the-variants as N
+use Rattle.types.specs.declared.Atom.{Atom}
+use Rattle.types.specs.declared.Budget.{Budget}
+use Rattle.types.specs.declared.AtomAnswer.the-variants as A
 use Rattle.header.specs.Header.{headerBytes}
 use Rattle.reader.specs.Strings.{scratchNeeded}
 use Rattle.reader.specs.Parts.{markedBytes}
 use Rattle.little.specs.Counts.{holdsS}
 use Rattle.integer.specs.Integers.{integerValue}
-use Rattle.writers.specs.Bytes.{signedBytes, unsignedBytes}
-use Rattle.binary.specs.Formats.{meaning, nan}
+use Rattle.cast.specs.Variants.{sign, width, value, inRange}
+use Rattle.writers.specs.Bytes as Writers
+use Rattle.binary.specs.Formats.{Layout, single, double, meaning, nan}
 use Rattle.binary.specs.Floats.{plain}
-use Rattle.float.specs.Floats.{allowedFloat, layoutAt}
-use Rattle.float.specs.Bytes.{storedBytes}
-use Rattle.float.specs.Values.{floatMeans}
-use Rattle.atom.specs.Atoms.{specialNucleus}
+use Rattle.float.specs.Bytes as Floats
+use Rattle.float.specs.Values.{floatValue, floatMeans}
+use Rattle.atom.specs.Atoms.{atomOf, specialNucleus, atomRead, atomScratch}
+use Rattle.dictionary.specs.Wholes.{price}
 
--- a number that 16 bytes hold, signed or not; a float by its pattern and the bytes of its width; a special; a string
+-- "Sequence, Map and Symbol are their header only."
+pub data HeaderOnly : Kind → Type 0 where
+  sequence : HeaderOnly K.Sequence
+  map : HeaderOnly K.Map
+  symbol : HeaderOnly K.Symbol
+
+-- a number that 16 bytes hold, signed or not; an integer whose variant holds its value; a pattern of binary32 or of binary64; a
+-- value of either; a special; a string; a header alone
 pub data Value : Type 0 where
-  signed : (z : ℤ) → holdsS 16 z ≡ true → Value
-  unsigned : (k : ℕ) → k < 256 ^ 16 → Value
-  float : (own bits : ℕ) → allowedFloat own ≡ true → bits < 256 ^ own → Value
+  number : (z : ℤ) → holdsS 16 z ≡ true → Value
+  natural : (k : ℕ) → k < 256 ^ 16 → Value
+  integer : (x : Integer) → inRange (sign x) (width x) (value x) ≡ true → Value
+  f32-bits : (bits : ℕ) → bits < 256 ^ 4 → Value
+  f64-bits : (bits : ℕ) → bits < 256 ^ 8 → Value
+  f32 : (x : Ieee.Float) → T (Ieee.fits Ieee.binary32 x) → Value
+  f64 : (x : Ieee.Float) → T (Ieee.fits Ieee.binary64 x) → Value
   special : Special → Value
   string : (bytes : List ℕ) → length bytes < 2 ^ 64 → Value
+  header : (kind : Kind) → HeaderOnly kind → (arg : ℕ) → arg < 2 ^ 64 → Value
 
--- what is written of it
+-- what is written of it, by the definitions that the writers' contracts cite; the bytes of a float's value are those of its pattern,
+-- by which `write_f32` and `write_f64` say them
 abbrev pub written : Value → List ℕ
-written (signed z h) = signedBytes z
-written (unsigned k h) = unsignedBytes k
-written (float own bits a h) = storedBytes own bits
-written (special s) = headerBytes K.Special (specialCode s)
-written (string bytes h) = headerBytes K.Bytes (length bytes) ++ bytes
+written (number z h) = Writers.signedBytes z
+written (natural k h) = Writers.unsignedBytes k
+written (integer x h) = Writers.valueBytes x
+written (f32-bits bits h) = Floats.f32Bytes bits
+written (f64-bits bits h) = Floats.f64Bytes bits
+written (f32 x h) = Floats.valueBytes (F.F32 x)
+written (f64 x h) = Floats.valueBytes (F.F64 x)
+written (special s) = Writers.specialBytes s
+written (string bytes h) = Writers.bytesBytes bytes
+written (header kind w arg h) = headerBytes kind arg
 
 -- the scratch that it takes to read it
 abbrev pub roomFor : Way → Value → ℕ
-roomFor way (signed z h) = 0
-roomFor way (unsigned k h) = 0
-roomFor way (float own bits a h) = 0
+roomFor way (number z h) = 0
+roomFor way (natural k h) = 0
+roomFor way (integer x h) = 0
+roomFor way (f32-bits bits h) = 0
+roomFor way (f64-bits bits h) = 0
+roomFor way (f32 x h) = 0
+roomFor way (f64 x h) = 0
 roomFor way (special s) = 0
 roomFor way (string bytes h) = scratchNeeded way (length bytes)
+roomFor way (header kind w arg h) = 0
 
--- an integer carries its number; a float the meaning of its pattern, and a NaN its own bits beside it; a string's mark names its
--- bytes in the source or in the scratch
-pub data Carries (source scratch : List ℕ) : Nucleus → Value → Type 0 where
-  signed-carried : {n : Integer} {z : ℤ} {h : holdsS 16 z ≡ true} → integerValue n ≡ z → Carries source scratch (N.Integer n) (signed z h)
-  unsigned-carried : {n : Integer} {k : ℕ} {h : k < 256 ^ 16} → integerValue n ≡ pos k → Carries source scratch (N.Integer n) (unsigned k h)
-  float-carried : {x : Float} {stored own bits : ℕ} {a : allowedFloat own ≡ true} {h : bits < 256 ^ own} → floatMeans x ≡ plain (meaning (layoutAt own) bits) → ((s : Bool) (t : ℕ) → meaning (layoutAt own) bits ≡ nan s t → stored ≡ bits) → Carries source scratch (N.Float x stored) (float own bits a h)
-  special-carried : {s : Special} → Carries source scratch (specialNucleus s) (special s)
-  string-carried : {mark : Mark} {bytes : List ℕ} {h : length bytes < 2 ^ 64} → markedBytes mark source scratch ≡ bytes → Carries source scratch (N.Bytes mark) (string bytes h)
+-- the kind of an integer's variant
+abbrev pub kindOf : Sign → Kind
+kindOf signed = K.Int
+kindOf unsigned = K.UInt
+
+-- a float, and the bits stored beside it, that mean what a pattern means; a NaN's are its own
+pub record Means (layout : Layout) (bits : ℕ) (x : Float) (stored : ℕ) : Type 0 where
+  pub same-meaning : floatMeans x ≡ plain (meaning layout bits)
+  pub nan-kept : (s : Bool) (t : ℕ) → meaning layout bits ≡ nan s t → stored ≡ bits
+
+-- An atom of the kind that was written carries the value: an integer its number; a float the meaning of the pattern, or the value;
+-- a string's mark names its bytes, in the source or in the scratch; a special and a header are the atom itself.
+pub data Carries (source scratch : List ℕ) : Atom → Value → Type 0 where
+  number-carried : {arg : ℕ} {n : Integer} {z : ℤ} {h : holdsS 16 z ≡ true} → integerValue n ≡ z → Carries source scratch (atomOf K.Int arg (N.Integer n)) (number z h)
+  natural-carried : {arg : ℕ} {n : Integer} {k : ℕ} {h : k < 256 ^ 16} → integerValue n ≡ pos k → Carries source scratch (atomOf K.UInt arg (N.Integer n)) (natural k h)
+  integer-carried : {arg : ℕ} {n x : Integer} {h : inRange (sign x) (width x) (value x) ≡ true} → integerValue n ≡ integerValue x → Carries source scratch (atomOf (kindOf (sign x)) arg (N.Integer n)) (integer x h)
+  f32-bits-carried : {arg : ℕ} {x : Float} {stored bits : ℕ} {h : bits < 256 ^ 4} → Means single bits x stored → Carries source scratch (atomOf K.Float arg (N.Float x stored)) (f32-bits bits h)
+  f64-bits-carried : {arg : ℕ} {x : Float} {stored bits : ℕ} {h : bits < 256 ^ 8} → Means double bits x stored → Carries source scratch (atomOf K.Float arg (N.Float x stored)) (f64-bits bits h)
+  f32-carried : {arg : ℕ} {y : Float} {stored : ℕ} {x : Ieee.Float} {h : T (Ieee.fits Ieee.binary32 x)} → floatValue y ≡ x → Carries source scratch (atomOf K.Float arg (N.Float y stored)) (f32 x h)
+  f64-carried : {arg : ℕ} {y : Float} {stored : ℕ} {x : Ieee.Float} {h : T (Ieee.fits Ieee.binary64 x)} → floatValue y ≡ x → Carries source scratch (atomOf K.Float arg (N.Float y stored)) (f64 x h)
+  special-carried : {s : Special} → Carries source scratch (atomOf K.Special (specialCode s) (specialNucleus s)) (special s)
+  string-carried : {mark : Mark} {bytes : List ℕ} {h : length bytes < 2 ^ 64} → markedBytes mark source scratch ≡ bytes → Carries source scratch (atomOf K.Bytes (length bytes) (N.Bytes mark)) (string bytes h)
+  header-carried : {kind : Kind} {w : HeaderOnly kind} {arg : ℕ} {h : arg < 2 ^ 64} → Carries source scratch (atomOf kind arg N.None) (header kind w arg h)
+
+-- WHAT WAS WRITTEN READS BACK, with anything before and after it: just past it, for its price, an atom that carries the value
+pub record ReadBack (way : Way) (before after : List ℕ) (budget : Budget) (scratch : List ℕ) (value : Value) : Type 0 where
+  pub atom : Atom
+  pub is-read : atomRead way (before ++ (written value ++ after)) (length before) budget scratch ≡ A.Read (record { 0 = length before + length (written value) }) (record { 0 = budget .0 - price (written value) }) atom
+  pub carries : Carries (before ++ (written value ++ after)) (atomScratch way (before ++ (written value ++ after)) (length before) budget scratch) atom value

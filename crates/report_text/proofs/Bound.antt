@@ -31,7 +31,8 @@ use Rattle.dictionary.specs.Letters.{letters}
 use Rattle.dictionary.specs.Wholes.{isString, IsAtom, bodyBytes, lettersIn, Atoms, none, more, total}
 use Rattle.dictionary.specs.Runs.{tallyAll}
 use Rattle.dictionary.proofs.Letters.{letters-most}
-use Rattle.dictionary.proofs.Price.{atoms-most, price-body, priced, tally-priced, Broken, Made, tally-broken}
+use Rattle.dictionary.specs.Prices.{priced, Made, Broken}
+use Rattle.dictionary.proofs.Price.{atoms-most, price-body, tally-priced, tally-broken}
 use Rattle.dictionary.proofs.Price as price
 use Rattle.report.specs.Reports.{reportOf, signed, counted, afterSignature, mostFileBytes}
 use Rattle.report.specs.declared.Report.the-variants as RP

@@ -3,4 +3,3 @@ pub mod Kinds
 pub mod Ways
 pub mod Counters
 pub mod Refusals
-pub mod Told
