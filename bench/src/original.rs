@@ -218,41 +218,50 @@ fn nucleus_words(atom: &Atom<'_>, place: usize, scratch: &[u8]) -> [u64; 4] {
     }
 }
 
-/// Writes values of two words each, low and high, one after another: the same loop as on the other side.
+/// Writes values of two words each, low and high, one after another, in a loop of each writer's own.
 #[inline(never)]
 pub fn write(writer: Writer, text: &[u8], values: &[[u64; 2]], out: &mut [u8]) -> usize {
-    let mut rest = out;
-    let mut count = 0;
-    for &[low, high] in values {
-        count += write_one(&mut rest, writer, text, low, high).expect("the buffer has room");
+    match writer {
+        Writer::I8 => each(values, out, |out, low, _| format::write_i8(out, low as i8)),
+        Writer::I16 => each(values, out, |out, low, _| format::write_i16(out, low as i16)),
+        Writer::I24 => each(values, out, |out, low, _| format::write_i24(out, ((low as i32) << 8) >> 8)),
+        Writer::I32 => each(values, out, |out, low, _| format::write_i32(out, low as i32)),
+        Writer::I48 => each(values, out, |out, low, _| format::write_i48(out, ((low as i64) << 16) >> 16)),
+        Writer::I64 => each(values, out, |out, low, _| format::write_i64(out, low as i64)),
+        Writer::I128 => each(values, out, |out, low, high| format::write_i128(out, wide(low, high) as i128)),
+        Writer::U8 => each(values, out, |out, low, _| format::write_u8(out, low as u8)),
+        Writer::U16 => each(values, out, |out, low, _| format::write_u16(out, low as u16)),
+        Writer::U24 => each(values, out, |out, low, _| format::write_u24(out, low as u32 & 0xFF_FFFF)),
+        Writer::U32 => each(values, out, |out, low, _| format::write_u32(out, low as u32)),
+        Writer::U48 => each(values, out, |out, low, _| format::write_u48(out, low & 0xFFFF_FFFF_FFFF)),
+        Writer::U64 => each(values, out, |out, low, _| format::write_u64(out, low)),
+        Writer::U128 => each(values, out, |out, low, high| format::write_u128(out, wide(low, high))),
+        Writer::F32 => each(values, out, |out, low, _| format::write_f32(out, f32::from_bits(low as u32))),
+        Writer::F64 => each(values, out, |out, low, _| format::write_f64(out, f64::from_bits(low))),
+        Writer::Special => each(values, out, |out, low, _| {
+            format::write_special(out, Special::try_from(low).unwrap_or(Special::None))
+        }),
+        Writer::Bool => each(values, out, |out, low, _| format::write_bool(out, low == 1)),
+        Writer::AtomHeader => each(values, out, |out, low, _| format::write_atom_header(out, Kind::Sequence, low)),
+        Writer::Header => each(values, out, |out, low, _| format::write_header(out, low as u8)),
+        Writer::Bytes => each(values, out, |out, low, _| format::write_bytes(out, &text[..low as usize])),
     }
-    count
+}
+
+fn wide(low: u64, high: u64) -> u128 {
+    (u128::from(high) << 64) | u128::from(low)
 }
 
 #[inline(always)]
-fn write_one(out: &mut &mut [u8], writer: Writer, text: &[u8], low: u64, high: u64) -> io::Result<usize> {
-    let wide = (u128::from(high) << 64) | u128::from(low);
-    match writer {
-        Writer::I8 => format::write_i8(out, low as i8),
-        Writer::I16 => format::write_i16(out, low as i16),
-        Writer::I24 => format::write_i24(out, ((low as i32) << 8) >> 8),
-        Writer::I32 => format::write_i32(out, low as i32),
-        Writer::I48 => format::write_i48(out, ((low as i64) << 16) >> 16),
-        Writer::I64 => format::write_i64(out, low as i64),
-        Writer::I128 => format::write_i128(out, wide as i128),
-        Writer::U8 => format::write_u8(out, low as u8),
-        Writer::U16 => format::write_u16(out, low as u16),
-        Writer::U24 => format::write_u24(out, low as u32 & 0xFF_FFFF),
-        Writer::U32 => format::write_u32(out, low as u32),
-        Writer::U48 => format::write_u48(out, low & 0xFFFF_FFFF_FFFF),
-        Writer::U64 => format::write_u64(out, low),
-        Writer::U128 => format::write_u128(out, wide),
-        Writer::F32 => format::write_f32(out, f32::from_bits(low as u32)),
-        Writer::F64 => format::write_f64(out, f64::from_bits(low)),
-        Writer::Special => format::write_special(out, Special::try_from(low).unwrap_or(Special::None)),
-        Writer::Bool => format::write_bool(out, low == 1),
-        Writer::AtomHeader => format::write_atom_header(out, Kind::Sequence, low),
-        Writer::Header => format::write_header(out, low as u8),
-        Writer::Bytes => format::write_bytes(out, &text[..low as usize]),
+fn each(
+    values: &[[u64; 2]],
+    out: &mut [u8],
+    write: impl Fn(&mut &mut [u8], u64, u64) -> io::Result<usize>,
+) -> usize {
+    let mut rest = out;
+    let mut count = 0;
+    for &[low, high] in values {
+        count += write(&mut rest, low, high).expect("the buffer has room");
     }
+    count
 }

@@ -15,8 +15,9 @@ extern "C" {
     ) -> u64;
     fn loop_run(source: *const u8, source_len: usize, budget: u64, out: *mut u64, out_len: usize) -> u64;
     fn loop_tally(source: *const u8, source_len: usize, out: *mut u64, out_len: usize) -> u64;
-    fn loop_write(
-        writer: u64,
+    fn loop_write(writer: u64, values: *const u64, values_len: usize, out: *mut u8, out_len: usize) -> usize;
+    fn loop_write_header(values: *const u64, values_len: usize, out: *mut u8, out_len: usize) -> usize;
+    fn loop_write_bytes(
         text: *const u8,
         text_len: usize,
         values: *const u64,
@@ -70,7 +71,7 @@ pub fn tally(source: &[u8]) -> Result<Tally, u64> {
     if refusal == 0 { Ok(Tally { atoms, body, charge, letters }) } else { Err(refusal) }
 }
 
-/// The writers, by the number that `loop_write` takes.
+/// The writers; those before the signature by the number that `loop_write` takes.
 #[derive(Clone, Copy)]
 pub enum Writer {
     I8,
@@ -96,20 +97,19 @@ pub enum Writer {
     Bytes,
 }
 
-/// Writes values of two words each, low and high, one after another; answers how many bytes they take.
+/// Writes values of two words each, low and high, one after another; answers how many bytes they take. The writers of numbers
+/// share a loop that chooses among them at each value; the signature's and the strings' have one of their own.
 pub fn write(writer: Writer, text: &[u8], values: &[[u64; 2]], out: &mut [u8]) -> usize {
     let values = values.as_flattened();
+    let (words, count) = (values.as_ptr(), values.len());
+    let (room, size) = (out.as_mut_ptr(), out.len());
     // SAFETY: each pointer comes with the length of its own live slice.
     unsafe {
-        loop_write(
-            writer as u64,
-            text.as_ptr(),
-            text.len(),
-            values.as_ptr(),
-            values.len(),
-            out.as_mut_ptr(),
-            out.len(),
-        )
+        match writer {
+            Writer::Header => loop_write_header(words, count, room, size),
+            Writer::Bytes => loop_write_bytes(text.as_ptr(), text.len(), words, count, room, size),
+            number => loop_write(number as u64, words, count, room, size),
+        }
     }
 }
 

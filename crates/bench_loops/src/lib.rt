@@ -191,65 +191,96 @@ fn special_of(code: u64) -> Special {
     }
 }
 
-// Writes a value, of two words, by the writer of a number; a string is the first bytes of the text.
-fn write_one(out: &mut [u8], writer: u64, text: &[u8], low: u64, high: u64) -> Written {
+// The bytes that a writer wrote; more than any buffer has if it refused.
+fn count_of(written: Written) -> usize {
+    match written {
+        Written::Count(count) => return count,
+        Written::Refused(_) => return 0xFFFF_FFFF_FFFF_FFFF,
+    }
+}
+
+// Writes a value, of two words, by the writer of a number. Each arm takes the count out of its own answer, so that where a
+// writer is inlined the count stays in a register.
+fn write_one(out: &mut [u8], writer: u64, low: u64, high: u64) -> usize {
     match writer {
-        0 => return writers::write_i8(out, little::i8_of(low % 0x100)),
-        1 => return writers::write_i16(out, little::i16_of(low % 0x1_0000)),
-        2 => return writers::write_i24(out, little::i24_of(low % 0x100_0000)),
-        3 => return writers::write_i32(out, little::i32_of(low % 0x1_0000_0000)),
-        4 => return writers::write_i48(out, little::i48_of(low % 0x1_0000_0000_0000)),
-        5 => return writers::write_i64(out, little::i64_of(low)),
-        6 => return writers::write_i128(out, Wide { lo: low, hi: high }),
-        7 => return writers::write_u8(out, (low % 0x100) as u8),
-        8 => return writers::write_u16(out, (low % 0x1_0000) as u16),
-        9 => return writers::write_u24(out, (low % 0x100_0000) as u32),
-        10 => return writers::write_u32(out, (low % 0x1_0000_0000) as u32),
-        11 => return writers::write_u48(out, low % 0x1_0000_0000_0000),
-        12 => return writers::write_u64(out, low),
-        13 => return writers::write_u128(out, Wide { lo: low, hi: high }),
+        0 => return count_of(writers::write_i8(out, little::i8_of(low % 0x100))),
+        1 => return count_of(writers::write_i16(out, little::i16_of(low % 0x1_0000))),
+        2 => return count_of(writers::write_i24(out, little::i24_of(low % 0x100_0000))),
+        3 => return count_of(writers::write_i32(out, little::i32_of(low % 0x1_0000_0000))),
+        4 => return count_of(writers::write_i48(out, little::i48_of(low % 0x1_0000_0000_0000))),
+        5 => return count_of(writers::write_i64(out, little::i64_of(low))),
+        6 => return count_of(writers::write_i128(out, Wide { lo: low, hi: high })),
+        7 => return count_of(writers::write_u8(out, (low % 0x100) as u8)),
+        8 => return count_of(writers::write_u16(out, (low % 0x1_0000) as u16)),
+        9 => return count_of(writers::write_u24(out, (low % 0x100_0000) as u32)),
+        10 => return count_of(writers::write_u32(out, (low % 0x1_0000_0000) as u32)),
+        11 => return count_of(writers::write_u48(out, low % 0x1_0000_0000_0000)),
+        12 => return count_of(writers::write_u64(out, low)),
+        13 => return count_of(writers::write_u128(out, Wide { lo: low, hi: high })),
         14 => {
-            return float::write_f32(out, binary::f32_of_bits((low % 0x1_0000_0000) as u32));
+            return count_of(float::write_f32(
+                out,
+                binary::f32_of_bits((low % 0x1_0000_0000) as u32),
+            ));
         }
-        15 => return float::write_f64(out, binary::f64_of_bits(low)),
-        16 => return writers::write_special(out, special_of(low)),
-        17 => return writers::write_bool(out, low == 1),
-        18 => return header::write_atom_header(out, Kind::Sequence, low),
-        19 => return header::write_header(out, (low % 0x100) as u8),
-        _ => return writers::write_bytes(out, reader::part(text, 0, low as usize)),
+        15 => return count_of(float::write_f64(out, binary::f64_of_bits(low))),
+        16 => return count_of(writers::write_special(out, special_of(low))),
+        17 => return count_of(writers::write_bool(out, low == 1)),
+        _ => return count_of(header::write_atom_header(out, Kind::Sequence, low)),
     }
 }
 
 // Where the next value goes, after a write at a place of a buffer of that length; its end if the write was refused.
-fn past(length: usize, at: usize, written: Written) -> usize
+fn past(length: usize, at: usize, count: usize) -> usize
     requires { ⌜ at ≤ length ⌝ }
     ensures { λ r. ⌜ r ≤ length ⌝ }
 {
-    match written {
-        Written::Count(count) => {
-            if count <= length - at {
-                return at + count;
-            }
-            return length;
-        }
-        Written::Refused(_) => return length,
+    if count <= length - at {
+        return at + count;
     }
+    length
 }
 
 // Writes values, each of two words in turn, one after another; answers how many bytes they take.
 #[no_mangle]
-pub extern "C" fn loop_write(writer: u64, text: &[u8], values: &[u64], out: &mut [u8]) -> usize {
+pub extern "C" fn loop_write(writer: u64, values: &[u64], out: &mut [u8]) -> usize {
     let count = values.len() / 2;
     let mut at: usize = 0;
     let mut i: usize = 0;
     while i < count {
         let low = values[2 * i];
         let high = values[2 * i + 1];
-        at = past(
-            out.len(),
-            at,
-            write_one(&mut out[at..], writer, text, low, high),
-        );
+        at = past(out.len(), at, write_one(&mut out[at..], writer, low, high));
+        i += 1;
+    }
+    at
+}
+
+// The signature's writer in a loop of its own, of versions in the first word of two.
+#[no_mangle]
+pub extern "C" fn loop_write_header(values: &[u64], out: &mut [u8]) -> usize {
+    let count = values.len() / 2;
+    let mut at: usize = 0;
+    let mut i: usize = 0;
+    while i < count {
+        let version = (values[2 * i] % 0x100) as u8;
+        let written = count_of(header::write_header(&mut out[at..], version));
+        at = past(out.len(), at, written);
+        i += 1;
+    }
+    at
+}
+
+// The string's writer in a loop of its own: each is the first bytes of the text, of a length in the first word of two.
+#[no_mangle]
+pub extern "C" fn loop_write_bytes(text: &[u8], values: &[u64], out: &mut [u8]) -> usize {
+    let count = values.len() / 2;
+    let mut at: usize = 0;
+    let mut i: usize = 0;
+    while i < count {
+        let string = reader::part(text, 0, values[2 * i] as usize);
+        let written = count_of(writers::write_bytes(&mut out[at..], string));
+        at = past(out.len(), at, written);
         i += 1;
     }
     at

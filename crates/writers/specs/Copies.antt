@@ -1,5 +1,5 @@
 -- A string copied in parts that may overlap: what the buffer holds meanwhile.
-use Prim.Native.Nat.{ℕ, _+_, _≤_}
+use Prim.Native.Nat.{ℕ, _≤_}
 use mathlib.Core.Path.{_≡_}
 use mathlib.Core.List.{List, _++_}
 use lib.ListN.{length, take, drop}
@@ -11,7 +11,7 @@ pub record Front (source old : List ℕ) (least most : ℕ) (buffer : List ℕ) 
   pub inside : count ≤ most
   pub same : buffer ≡ take count source ++ drop count old
 
--- four bytes from i on are copied: where those before them are there, these are now too
-abbrev pub CopiedFour : List ℕ → ℕ → List ℕ → List ℕ → Type 0
-CopiedFour source i before after =
-    (old : List ℕ) (most : ℕ) → length source ≤ length old → most ≤ length source → i + 4 ≤ most → Front source old i most before → Front source old (i + 4) most after
+-- the bytes from a place to another are copied: where those before them are there, these are now too
+abbrev pub Copied : List ℕ → ℕ → ℕ → List ℕ → List ℕ → Type 0
+Copied source from to before after =
+    (old : List ℕ) (most : ℕ) → length source ≤ length old → most ≤ length source → to ≤ most → Front source old from most before → Front source old to most after

@@ -10,7 +10,7 @@ ghost use Rattle.types.specs.declared.Special.the-variants.{None, Unit, Named};
 ghost use Rattle.lent.specs.Lent.{writtenAnswer, writtenContent};
 ghost use Rattle.little.specs.Counts.{holdsU, holdsS};
 ghost use Rattle.integer.specs.Integers.{wideBits};
-ghost use Rattle.writers.specs.Copies.{CopiedFour};
+ghost use Rattle.writers.specs.Copies.{Copied};
 ghost use Rattle.writers.specs.Bytes.{signedBytes, unsignedBytes, wideSigned, valueBytes, specialBytes, truth, bytesBytes, heldAnswer, heldContent};
 use types::Integer;
 use types::Kind;
@@ -274,7 +274,7 @@ pub fn write_to(out: &mut [u8], integer: Integer) -> Written
 // Copies four bytes, all read before any is written.
 fn copy_four(out: &mut [u8], source: &[u8], i: usize)
     requires { ⌜ (i + 4 ≤ length (now source)) × (length (now source) ≤ length (now out)) ⌝ }
-    ensures { λ r. ⌜ CopiedFour (now (source .entry)) i (now (out .entry)) (now (out .exit)) ⌝ }
+    ensures { λ r. ⌜ Copied (now (source .entry)) i (i + 4) (now (out .entry)) (now (out .exit)) ⌝ }
 {
     let first = source[i];
     let second = source[i + 1];
@@ -286,17 +286,41 @@ fn copy_four(out: &mut [u8], source: &[u8], i: usize)
     out[i + 3] = fourth;
 }
 
-// Copies a long string that has its room, in blocks: one of a length known beforehand is compiled without a loop.
+// Copies sixteen bytes, by way of a block of its own: no other buffer can lie over that, so they go as one.
+fn copy_sixteen(out: &mut [u8], source: &[u8], i: usize)
+    requires { ⌜ (i + 16 ≤ length (now source)) × (length (now source) ≤ length (now out)) ⌝ }
+    ensures { λ r. ⌜ Copied (now (source .entry)) i (i + 16) (now (out .entry)) (now (out .exit)) ⌝ }
+{
+    let mut block = [0u8; 16];
+    lent::copy_in(&mut block, &source[i..i + 16]);
+    lent::copy_in(&mut out[i..i + 16], &block);
+}
+
+// Copies what is left of a string from a place on, sixteen bytes at a time, the last sixteen over those before them.
+fn copy_rest(out: &mut [u8], source: &[u8], from: usize)
+    requires { ⌜ (16 ≤ length (now source)) × (length (now source) ≤ length (now out)) × (from ≤ length (now source)) ⌝ }
+    ensures { λ r. ⌜ Copied (now (source .entry)) from (length (now (source .entry))) (now (out .entry)) (now (out .exit)) ⌝ }
+{
+    let mut i = from;
+    while 16 < source.len() - i {
+        copy_sixteen(out, source, i);
+        i += 16;
+    }
+    copy_sixteen(out, source, source.len() - 16);
+}
+
+// Copies a string of 16 bytes or more that has its room, in blocks: one of a length known beforehand is compiled without a
+// loop.
 fn copy_blocks(out: &mut [u8], source: &[u8])
-    requires { ⌜ length (now source) ≤ length (now out) ⌝ }
+    requires { ⌜ (16 ≤ length (now source)) × (length (now source) ≤ length (now out)) ⌝ }
     ensures { λ r. ⌜ now (out .exit) ≡ now (source .entry) ++ drop (length (now (source .entry))) (now (out .entry)) ⌝ }
 {
     let mut i = 0;
-    while 256 <= source.len() - i {
-        lent::copy_in(&mut out[i..i + 256], &source[i..i + 256]);
-        i += 256;
+    while 128 <= source.len() - i {
+        lent::copy_in(&mut out[i..i + 128], &source[i..i + 128]);
+        i += 128;
     }
-    lent::copy_in(&mut out[i..], &source[i..]);
+    copy_rest(out, source, i);
 }
 
 // Copies a string that has its room. A short one goes four bytes at a time, the last four over those before them, so that

@@ -8,10 +8,10 @@ use Rattle.bench_loops.proofs.loop_write.Statement.{statement}
 use Rattle.bench_loops.proofs.loop_write.Tie as tie
 
 abbrev Inv-loop : tie.InvT-loop
-Inv-loop writer text values out₀ count at₀ i₀ out at i = (at ≤ length out) × (length out ≡ length out₀)
+Inv-loop writer values out₀ count at₀ i₀ out at i = (at ≤ length out) × (length out ≡ length out₀)
 
 abbrev μ-loop : tie.MeasureT-loop
-μ-loop writer text values out₀ count at₀ i₀ out at i = count - i
+μ-loop writer values out₀ count at₀ i₀ out at i = count - i
 
 loop-holds : tie.Need-loop-holds Inv-loop μ-loop
 loop-holds c = search needs

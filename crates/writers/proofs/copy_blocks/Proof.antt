@@ -6,8 +6,7 @@ use native.Mathlib.Omega.{arith}
 use denote.Ref.{now}
 use lib.ListN.{length, take, drop}
 use borrow.Author.Needs.{needs}
-use Rattle.lent.proofs.Stores.{copy-done}
-use Rattle.writers.proofs.Copies.{part-fits, part-more, front-length}
+use Rattle.writers.proofs.Copies.{part-fits, part-more, front-length, rest}
 use Rattle.writers.proofs.copy_blocks.Statement.{statement}
 use Rattle.writers.proofs.copy_blocks.Tie as tie
 
@@ -51,7 +50,7 @@ copy-in-requires : tie.Need-copy-in-requires Inv-loop μ-loop
 copy-in-requires c κs =
     let l = c .before .before .before .loop in
     let s = now (c .before .before .before .before .before .before .args .source) in
-    part-fits s (l .out) (l .i) (l .i + 256 - l .i) (l .i + 256 - l .i) (omega arith) (omega arith) (omega arith)
+    part-fits s (l .out) (l .i) (l .i + 128 - l .i) (l .i + 128 - l .i) (omega arith) (omega arith) (omega arith)
 
 add-i : tie.Need-add-i Inv-loop μ-loop
 add-i c = omega arith
@@ -65,46 +64,23 @@ loop-again c =
     let a = c .before .before .before .before .before .before .before .before .before .args in
     let s = now (a .source) in
     let d = now (a .out) in
-    let more = part-more s d (l .out) (c .before .before .copy-in .last .0) (l .i) (l .i + 256 - l .i) (l .i + 256 - l .i) (l .i + 256) (omega arith) (omega arith) (omega arith) (omega arith) (l .inv .2) (c .before .before .copy-in .ensures) in (
+    let more = part-more s d (l .out) (c .before .before .copy-in .last .0) (l .i) (l .i + 128 - l .i) (l .i + 128 - l .i) (l .i + 128) (omega arith) (omega arith) (omega arith) (omega arith) (l .inv .2) (c .before .before .copy-in .ensures) in (
       omega arith,
-      ap length more ∙ front-length s d (l .i + 256) (omega arith) (omega arith),
+      ap length more ∙ front-length s d (l .i + 128) (omega arith) (omega arith),
       more,
     )
 
-sub-copy-in-3 : tie.Need-sub-copy-in-3 Inv-loop μ-loop
-sub-copy-in-3 c = omega arith
-
-part-copy-in-start-3 : tie.Need-part-copy-in-start-3 Inv-loop μ-loop
-part-copy-in-start-3 c = omega arith
-
-part-copy-in-end-3 : tie.Need-part-copy-in-end-3 Inv-loop μ-loop
-part-copy-in-end-3 c = omega arith
-
-sub-copy-in-4 : tie.Need-sub-copy-in-4 Inv-loop μ-loop
-sub-copy-in-4 c = omega arith
-
-part-copy-in-start-4 : tie.Need-part-copy-in-start-4 Inv-loop μ-loop
-part-copy-in-start-4 c = omega arith
-
-part-copy-in-end-4 : tie.Need-part-copy-in-end-4 Inv-loop μ-loop
-part-copy-in-end-4 c = omega arith
-
-copy-in-requires-2 : tie.Need-copy-in-requires-2 Inv-loop μ-loop
-copy-in-requires-2 c κs =
-    let l = c .before .before .before .loop in
-    let s = now (c .before .before .before .before .before .before .args .source) in
-    part-fits s (l .out) (l .i) (length s - l .i) (length (l .out) - l .i) (omega arith) (omega arith) (omega arith)
+copy-rest-requires : tie.Need-copy-rest-requires Inv-loop μ-loop
+copy-rest-requires c κs = search needs
 
 same-length : tie.Need-same-length Inv-loop μ-loop
 same-length c = search needs
 
 returns : tie.Need-returns Inv-loop μ-loop
 returns c =
-    let l = c .before .before .before .before .before .before .loop in
-    let a = c .before .before .before .before .before .before .before .before .before .args in
-    let s = now (a .source) in
-    let d = now (a .out) in
-    part-more s d (l .out) (c .before .before .copy-in2 .last .0) (l .i) (length s - l .i) (length (l .out) - l .i) (length s) (omega arith) (omega arith) (omega arith) (omega arith) (l .inv .2) (c .before .before .copy-in2 .ensures) ∙ copy-done d s (length s) refl
+    let l = c .before .before .before .before .before .loop in
+    let a = c .before .before .before .before .before .before .before .before .args in
+    rest (now (a .source)) (now (a .out)) (l .out) (c .before .before .copy-rest .last .0) (l .i) (omega arith) (omega arith) (l .inv .2) (c .before .before .copy-rest .ensures)
 
 pub copy-blocks-spec : {M : Type 1} → statement M
 copy-blocks-spec =
@@ -126,12 +102,6 @@ copy-blocks-spec =
     add-i
     loop-less
     loop-again
-    sub-copy-in-3
-    part-copy-in-start-3
-    part-copy-in-end-3
-    sub-copy-in-4
-    part-copy-in-start-4
-    part-copy-in-end-4
-    copy-in-requires-2
+    copy-rest-requires
     same-length
     returns)
