@@ -29,9 +29,12 @@ fn print(file: &[u8]) -> Result<(), Stopped> {
 }
 
 fn main() -> ExitCode {
-    let Some(name) = std::env::args_os().nth(1) else {
-        eprintln!("usage: print FILE");
-        return ExitCode::from(2);
+    let name = match std::env::args_os().nth(1) {
+        Some(name) => name,
+        None => {
+            eprintln!("usage: print FILE");
+            return ExitCode::from(2);
+        }
     };
     let file = match std::fs::read(&name) {
         Ok(file) => file,
@@ -44,7 +47,7 @@ fn main() -> ExitCode {
         Ok(()) => ExitCode::SUCCESS,
         Err(stopped) => {
             eprintln!("print: {stopped}");
-            ExitCode::FAILURE
+            ExitCode::from(1)
         }
     }
 }
