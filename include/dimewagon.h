@@ -9,9 +9,9 @@
  * every call, with zeros where nothing is said, except that an array of fewer than eight is refused by 9 and nothing is done.
  * What the words hold, from word 0 on, is said at each function; the data of a refusal are two words, named at its number.
  *
- * A slice is a pointer and a length. Of length 0 the pointer may dangle, but it must not be null, as the data() of an empty
- * std::vector may be. Slices that are written to must not overlap others. A place counts bytes from the source's start, and
- * one past the end counts as the end. A budget of UINT64_MAX is enough for all that a source holds. No function keeps a
+ * A slice is a pointer and a length. Of length 0 the pointer may dangle, but it must not be null; the data() of an empty
+ * std::vector may be null. Slices that are written to must not overlap others. A place counts bytes from the source's start,
+ * and one past the end counts as the end. A budget of UINT64_MAX is enough for all that a source holds. No function keeps a
  * pointer or anything else between calls, takes memory or fails otherwise, so any thread may call any of them.
  */
 #ifndef DIMEWAGON_H
