@@ -1,4 +1,6 @@
-/* Prints the atoms of a dictionary file, one to a line: print FILE. The same lines as rust/examples/print.rs. */
+/* Prints the atoms of a dictionary file, one to a line: print FILE. Read exactly: a refusal is printed with its number and
+ * where the refused atom starts, and the status is 1; it is 2 if there is no file to read. rust/examples/print.rs is the same
+ * program, but for the digits of a float and for strings that are not UTF-8. */
 #include "dimewagon.h"
 #include <inttypes.h>
 #include <stdio.h>
@@ -47,26 +49,62 @@ static void print_atom(const uint8_t *source, const uint64_t *words)
     putchar('\n');
 }
 
-int main(int count, char **arguments)
+/* The whole of a file, which the caller frees, or NULL. */
+static uint8_t *read_whole(FILE *file, size_t *length)
 {
-    static uint8_t source[1 << 20];
-    uint64_t words[POT_WORDS];
-    FILE *file = count == 2 ? fopen(arguments[1], "rb") : NULL;
-    if (!file) {
-        fprintf(stderr, "usage: print FILE\n");
-        return 2;
+    size_t room = 1 << 16;
+    uint8_t *bytes = malloc(room);
+    *length = 0;
+    while (bytes) {
+        uint8_t *more;
+        *length += fread(bytes + *length, 1, room - *length, file);
+        if (*length < room && !ferror(file))
+            return bytes;
+        more = ferror(file) ? NULL : realloc(bytes, room *= 2);
+        if (!more)
+            free(bytes);
+        bytes = more;
     }
-    size_t length = fread(source, 1, sizeof source, file);
-    fclose(file);
+    return NULL;
+}
+
+/* Prints a file; answers the refusal's number, or 0. */
+static uint64_t print_file(const uint8_t *source, size_t length)
+{
+    uint64_t words[POT_WORDS];
+    size_t start = 0;
     uint64_t refusal = pot_read_header_exact(source, length, 0, words, POT_WORDS);
     if (!refusal)
         printf("version %" PRIu64 "\n", words[1]);
     while (!refusal && words[0] < length) {
-        refusal = pot_read_atom_exact(source, length, words[0], UINT64_MAX, words, POT_WORDS);
+        start = words[0];
+        refusal = pot_read_atom_exact(source, length, start, UINT64_MAX, words, POT_WORDS);
         if (!refusal)
             print_atom(source, words);
     }
     if (refusal)
-        printf("refused %" PRIu64 "\n", refusal);
+        fprintf(stderr, "print: refusal %" PRIu64 " at %zu\n", refusal, start);
+    return refusal;
+}
+
+int main(int count, char **arguments)
+{
+    size_t length;
+    FILE *file;
+    uint8_t *source;
+    uint64_t refusal;
+    if (count != 2) {
+        fprintf(stderr, "usage: print FILE\n");
+        return 2;
+    }
+    file = fopen(arguments[1], "rb");
+    source = file ? read_whole(file, &length) : NULL;
+    if (!source) {
+        perror(arguments[1]);
+        return 2;
+    }
+    fclose(file);
+    refusal = print_file(source, length);
+    free(source);
     return refusal ? 1 : 0;
 }

@@ -1,22 +1,18 @@
 /* Dimewagon: the atoms of dictionary files, read, written and cast.
  *
- * Every function answers a number and writes eight words. The number is 0, or the refusal's:
+ *     uint64_t words[POT_WORDS];
+ *     uint64_t refusal = pot_read_header_exact(file, length, 0, words, POT_WORDS);
+ *     while (!refusal && words[0] < length)
+ *         refusal = pot_read_atom_exact(file, length, words[0], UINT64_MAX, words, POT_WORDS);
  *
- *     1 IncompatibleVersion          the signature's bits are missing
- *     2 InvalidKind                  a code that no kind has; the code
- *     3 UnknownSpecial               a code that no special has; the code
- *     4 Eof                          the input ends
- *     5 TooManyBytesRead             the charge exceeds the budget
- *     6 UnsupportedByteCount         a number of a width that is not allowed; kind, count
- *     7 UnexpectedKind               kind, wanted
- *     8 ImpreciseCastWouldLoseData   a cast that would lose data, or a value that its writer or variant does not hold
- *     9 NoRoom                       no room in `out`, in `scratch`, or for the eight words
- *    10 TooLong                      a tally's input of more than 16,777,216 bytes
+ * Every function answers a number and writes eight words. The number is 0, or the refusal's. All eight words are written by
+ * every call, with zeros where nothing is said, except that an array of fewer than eight is refused by 9 and nothing is done.
+ * What the words hold, from word 0 on, is said at each function; the data of a refusal are two words, named at its number.
  *
- * All eight words are written by every call, with zeros where nothing is said, except that an array of fewer than eight is
- * refused by 9 and nothing is done. What the words hold is said at each function; the data of a refusal, two words, are
- * named above, kinds by their codes. A slice is a pointer, which may be dangling but not null if the length is 0, and a
- * length. Slices that are written to must not overlap others. No function keeps a pointer, takes memory or fails otherwise.
+ * A slice is a pointer and a length. Of length 0 the pointer may dangle, but it must not be null; the data() of an empty
+ * std::vector may be null. Slices that are written to must not overlap others. A place counts bytes from the source's start,
+ * and one past the end counts as the end. A budget of UINT64_MAX is enough for all that a source holds. No function keeps a
+ * pointer or anything else between calls, takes memory or fails otherwise, so any thread may call any of them.
  */
 #ifndef DIMEWAGON_H
 #define DIMEWAGON_H
@@ -31,12 +27,39 @@ extern "C" {
 /* The words that a call writes. */
 #define POT_WORDS 8
 
+/* The refusals. */
+enum {
+    POT_INCOMPATIBLE_VERSION = 1,           /* the signature's bits are missing */
+    POT_INVALID_KIND = 2,                   /* a code that no kind has; the code */
+    POT_UNKNOWN_SPECIAL = 3,                /* a code that no special has; the code */
+    POT_EOF = 4,                            /* the input ends */
+    POT_TOO_MANY_BYTES_READ = 5,            /* the charge exceeds the budget */
+    POT_UNSUPPORTED_BYTE_COUNT = 6,         /* a number of a width that is not allowed; its kind's code, its bytes */
+    POT_UNEXPECTED_KIND = 7,                /* a number of another kind; its kind's code and the wanted one's. No function
+                                             * here answers it */
+    POT_IMPRECISE_CAST_WOULD_LOSE_DATA = 8, /* a cast that would lose data, or a value that its writer or variant does not
+                                             * hold */
+    POT_NO_ROOM = 9,                        /* no room in `out`, in `scratch`, or for the eight words */
+    POT_TOO_LONG = 10                       /* a tally's input of more than 16,777,216 bytes */
+};
+
 /* The kinds of an atom. */
 enum { POT_SPECIAL, POT_INT, POT_UINT, POT_FLOAT, POT_SEQUENCE, POT_MAP, POT_SYMBOL, POT_BYTES };
 
+/* The specials: the argument of an atom of that kind. */
+enum {
+    POT_SPECIAL_NONE,
+    POT_SPECIAL_UNIT,
+    POT_SPECIAL_FALSE,
+    POT_SPECIAL_TRUE,
+    POT_SPECIAL_NAMED,
+    POT_SPECIAL_DYNAMIC_MAP,
+    POT_SPECIAL_DYNAMIC_END
+};
+
 /* What an atom holds: word 4 of an atom that was read, and words 5 to 7. */
 enum {
-    POT_NONE,        /* nothing, or the special None */
+    POT_NONE,        /* nothing more: the special None, a sequence, a map or a symbol */
     POT_BOOLEAN,     /* 0 or 1 */
     POT_INTEGER,     /* variant, low word, high word: two's complement in 128 bits */
     POT_FLOATING,    /* 4 or 8, the value's bits at that width in bytes, the stored bits */
@@ -66,21 +89,26 @@ uint64_t pot_read_atom_copied(const uint8_t *source, size_t source_len, size_t p
  * string, or the refusal's data. */
 uint64_t pot_skip_atom(const uint8_t *source, size_t source_len, size_t place, uint64_t budget, uint64_t *words, size_t words_len);
 
-/* Reads all atoms exactly. Words: place, budget left, atoms; of a refused atom also where it starts, and the data. */
+/* Reads all atoms of a source, which has no signature, exactly. Words: place, budget left, atoms; of a refused atom also where
+ * it starts, and the data. */
 uint64_t pot_run(const uint8_t *source, size_t source_len, uint64_t budget, uint64_t *words, size_t words_len);
 
-/* Reads all atoms exactly, without a budget. Words: atoms, body bytes, charge, letters; or where the refused atom starts,
- * and the data. */
+/* Counts all atoms of a source, which has no signature, exactly and without a budget. Words: atoms, body bytes, charge,
+ * letters; or where the refused atom starts, and the data. A letter is a string's byte outside 0x80 to 0xBF. */
 uint64_t pot_tally(const uint8_t *source, size_t source_len, uint64_t *words, size_t words_len);
 
 /* Writers. Each writes to the first bytes of `out`, in the fewest, or nothing. Words: how many bytes, or the data. */
 uint64_t pot_write_header(uint8_t *out, size_t out_len, uint8_t version, uint64_t *words, size_t words_len);
+/* A kind's code and an argument: of a sequence, a map or a symbol, the whole atom. */
 uint64_t pot_write_atom_header(uint8_t *out, size_t out_len, uint8_t kind, uint64_t arg, uint64_t *words, size_t words_len);
+/* A special by its code. */
 uint64_t pot_write_special(uint8_t *out, size_t out_len, uint64_t special, uint64_t *words, size_t words_len);
 uint64_t pot_write_none(uint8_t *out, size_t out_len, uint64_t *words, size_t words_len);
 uint64_t pot_write_unit(uint8_t *out, size_t out_len, uint64_t *words, size_t words_len);
 uint64_t pot_write_named(uint8_t *out, size_t out_len, uint64_t *words, size_t words_len);
+/* False if the value is 0, else true. */
 uint64_t pot_write_bool(uint8_t *out, size_t out_len, uint8_t value, uint64_t *words, size_t words_len);
+/* Integers; of 24 and 48 bits, a value outside them is refused by 8. Of 128 bits, the low and the high word. */
 uint64_t pot_write_i8(uint8_t *out, size_t out_len, int8_t value, uint64_t *words, size_t words_len);
 uint64_t pot_write_i16(uint8_t *out, size_t out_len, int16_t value, uint64_t *words, size_t words_len);
 uint64_t pot_write_i24(uint8_t *out, size_t out_len, int32_t value, uint64_t *words, size_t words_len);
@@ -95,20 +123,23 @@ uint64_t pot_write_u32(uint8_t *out, size_t out_len, uint32_t value, uint64_t *w
 uint64_t pot_write_u48(uint8_t *out, size_t out_len, uint64_t value, uint64_t *words, size_t words_len);
 uint64_t pot_write_u64(uint8_t *out, size_t out_len, uint64_t value, uint64_t *words, size_t words_len);
 uint64_t pot_write_u128(uint8_t *out, size_t out_len, uint64_t low, uint64_t high, uint64_t *words, size_t words_len);
-/* An integer by its variant, low and high word. */
+/* An integer by its variant, low and high word in two's complement. */
 uint64_t pot_write_integer(uint8_t *out, size_t out_len, uint64_t variant, uint64_t low, uint64_t high, uint64_t *words, size_t words_len);
+/* A string. */
 uint64_t pot_write_bytes(uint8_t *out, size_t out_len, const uint8_t *value, size_t value_len, uint64_t *words, size_t words_len);
 /* Floats by their bits, a NaN's too. */
 uint64_t pot_write_f32(uint8_t *out, size_t out_len, uint32_t bits, uint64_t *words, size_t words_len);
 uint64_t pot_write_f64(uint8_t *out, size_t out_len, uint64_t bits, uint64_t *words, size_t words_len);
 
-/* Casts of an integer, given by its variant, low and high word; a value that its variant does not hold is refused by 8.
- * To an integer of the variant `to`; words: low word, high word. To a float; words: its bits. */
+/* Casts of an integer, given by its variant, low and high word; a value that its variant does not hold is refused by 8, and
+ * so is a variant wider than the target, whatever its value: a POT_I16 of 5 is no POT_U8. To an integer of the variant `to`;
+ * words: low word, high word. To a float, of a value from -2^24 to 2^24 - 1, or -2^53 to 2^53 - 1; words: its bits. */
 uint64_t pot_integer_cast(uint64_t to, uint64_t variant, uint64_t low, uint64_t high, uint64_t *words, size_t words_len);
 uint64_t pot_integer_as_f32(uint64_t variant, uint64_t low, uint64_t high, uint64_t *words, size_t words_len);
 uint64_t pot_integer_as_f64(uint64_t variant, uint64_t low, uint64_t high, uint64_t *words, size_t words_len);
 
-/* Casts of a float, given by its bits. To a float; words: its bits. To an integer; words: variant, low word, high word. */
+/* Casts of a float, given by its bits. To a float of equal value; words: its bits. To an integer, of a whole value, clamped to
+ * 32 or 64 bits, or one that is nearly zero; words: variant, low word, high word. */
 uint64_t pot_f32_as_f64(uint32_t bits, uint64_t *words, size_t words_len);
 uint64_t pot_f64_as_f32(uint64_t bits, uint64_t *words, size_t words_len);
 uint64_t pot_f32_as_integer(uint32_t bits, uint64_t *words, size_t words_len);

@@ -1,6 +1,7 @@
-//! The functions of `include/dimewagon.h`, as they are.
+//! The functions of `include/dimewagon.h`, as they are; what each expects and answers is said there.
 #![allow(missing_docs)]
 
+#[rustfmt::skip]
 extern "C" {
     pub fn pot_read_header(source: *const u8, source_len: usize, place: usize, words: *mut u64, words_len: usize) -> u64;
     pub fn pot_read_header_exact(source: *const u8, source_len: usize, place: usize, words: *mut u64, words_len: usize) -> u64;

@@ -1,35 +1,44 @@
 //! The atoms of dictionary files, read, written and cast by a proved library.
 //!
-//! Reading is exact unless said otherwise: anything past the end of the source is refused. Strings are lent: they are parts
-//! of the source.
+//! Reading is exact: anything past the end of the source is refused, with the refusal's number and the place. Only
+//! [`read_atom`] and [`read_header`] take the bytes that are missing as zeros. Strings are lent: they are parts of the source.
+//! Places count from the start of the slice that was given. No function panics, whatever it is given.
 //!
 //! ```
 //! use dimewagon::{Atoms, Integer, Nucleus};
 //!
 //! let file = [0x50, 0x6F, 0x74, 0x01, 0xE3, 0x6E, 0xC3, 0xA9, 0x41, 0x2C, 0x01];
-//! let (version, body) = dimewagon::read_header(&file)?;
+//! let (version, atoms) = Atoms::of_file(&file)?;
 //! assert_eq!(version, 1);
-//! let atoms: Vec<_> = Atoms::new(body).collect::<Result<_, _>>()?;
+//! let atoms: Vec<_> = atoms.collect::<Result<_, _>>()?;
 //! assert_eq!(atoms[0].nucleus, Nucleus::Bytes("né".as_bytes()));
 //! assert_eq!(atoms[1].nucleus, Nucleus::Integer(Integer::U16(300)));
+//!
+//! // The same file without its last byte.
+//! let (_, cut) = Atoms::of_file(&file[..10])?;
+//! let stopped = cut.last().unwrap().unwrap_err();
+//! assert_eq!(stopped.to_string(), "refusal 4 at 8: the input ends");
 //! # Ok::<(), dimewagon::Stopped>(())
 //! ```
 #![warn(missing_docs)]
+#![deny(unsafe_code)]
 
+#[cfg(not(target_pointer_width = "64"))]
+compile_error!("the library is for machines with 64-bit sizes");
+
+mod calls;
 pub mod ffi;
 mod read;
 mod refusal;
 mod values;
 mod write;
 
+/// The example of README.md, which is tested.
+#[cfg(doctest)]
+#[doc = include_str!("../README.md")]
+struct Readme;
+
 pub use read::*;
 pub use refusal::*;
 pub use values::*;
 pub use write::*;
-
-/// What a call answered: its number, and its eight words.
-fn call(ask: impl FnOnce(*mut u64, usize) -> u64) -> (u64, [u64; 8]) {
-    let mut words = [0; 8];
-    let number = ask(words.as_mut_ptr(), words.len());
-    (number, words)
-}

@@ -1,9 +1,11 @@
 use std::iter::FusedIterator;
 
-use crate::{call, ffi, Atom, Kind, Nucleus, Refusal, Stopped};
+use crate::calls::{self, Answer};
+use crate::{Atom, Kind, Nucleus, Refusal, Refused, Stopped};
 
 /// An atom that was read.
 #[derive(Clone, Copy, Debug, PartialEq)]
+#[non_exhaustive]
 pub struct Read<'a> {
     /// The atom.
     pub atom: Atom<'a>,
@@ -14,8 +16,7 @@ pub struct Read<'a> {
 }
 
 /// An atom's answer; `bytes` is what its string would be a part of.
-fn read<'a>(bytes: &'a [u8], start: usize, answer: (u64, [u64; 8])) -> Result<Read<'a>, Stopped> {
-    let (number, w) = answer;
+fn read((number, w): Answer, bytes: &[u8], start: usize) -> Result<Read<'_>, Stopped> {
     let (place, budget) = (w[0] as usize, w[1]);
     if number != 0 {
         let refusal = Refusal::of(number, w[2], w[3]);
@@ -25,9 +26,8 @@ fn read<'a>(bytes: &'a [u8], start: usize, answer: (u64, [u64; 8])) -> Result<Re
     Ok(Read { atom, place, budget })
 }
 
-/// Reads the signature of a file: its version, and what follows it.
-pub fn read_header(source: &[u8]) -> Result<(u8, &[u8]), Stopped> {
-    let (number, w) = call(|words, len| unsafe { ffi::pot_read_header_exact(source.as_ptr(), source.len(), 0, words, len) });
+/// A signature's answer: the version, and what follows it.
+fn version((number, w): Answer, source: &[u8]) -> Result<(u8, &[u8]), Stopped> {
     let place = w[0] as usize;
     if number != 0 {
         let refusal = Refusal::of(number, 0, 0);
@@ -36,34 +36,109 @@ pub fn read_header(source: &[u8]) -> Result<(u8, &[u8]), Stopped> {
     Ok((w[1] as u8, &source[place..]))
 }
 
-/// Reads one atom; header and number bytes past the end read as zeros.
+/// Reads the signature of a file: its version, and what follows it. Bytes past the end read as zeros.
+///
+/// ```
+/// let (version, body) = dimewagon::read_header(b"Pot")?;
+/// assert_eq!((version, body), (0, &b""[..]));
+/// # Ok::<(), dimewagon::Stopped>(())
+/// ```
+pub fn read_header(source: &[u8]) -> Result<(u8, &[u8]), Stopped> {
+    version(calls::pot_read_header(source, 0), source)
+}
+
+/// Reads the signature of a file exactly: its version, and what follows it.
+///
+/// ```
+/// use dimewagon::{read_header_exact, Refusal};
+///
+/// assert_eq!(read_header_exact(b"Pot\x01\x40\x05")?, (1, &[0x40, 0x05][..]));
+/// assert_eq!(read_header_exact(b"Pot").unwrap_err().refusal, Refusal::Eof);
+/// assert_eq!(read_header_exact(b"Pox\x01").unwrap_err().refusal, Refusal::IncompatibleVersion);
+/// # Ok::<(), dimewagon::Stopped>(())
+/// ```
+pub fn read_header_exact(source: &[u8]) -> Result<(u8, &[u8]), Stopped> {
+    version(calls::pot_read_header_exact(source, 0), source)
+}
+
+/// Reads one atom at a place; header and number bytes past the end read as zeros.
 ///
 /// ```
 /// use dimewagon::{read_atom, read_atom_exact, Integer, Nucleus, Refusal};
 ///
 /// let cut = [0x41, 0x2C];
-/// assert_eq!(read_atom(&cut, 0, 2).unwrap().atom.nucleus, Nucleus::Integer(Integer::U16(44)));
+/// assert_eq!(read_atom(&cut, 0, 2)?.atom.nucleus, Nucleus::Integer(Integer::U16(44)));
 /// assert_eq!(read_atom_exact(&cut, 0, 2).unwrap_err().refusal, Refusal::Eof);
+/// # Ok::<(), dimewagon::Stopped>(())
 /// ```
 pub fn read_atom(source: &[u8], place: usize, budget: u64) -> Result<Read<'_>, Stopped> {
-    let answer = call(|words, len| unsafe { ffi::pot_read_atom(source.as_ptr(), source.len(), place, budget, words, len) });
-    read(source, place, answer)
+    read(calls::pot_read_atom(source, place, budget), source, place.min(source.len()))
 }
 
-/// Reads one atom exactly; a string is a part of the source.
+/// Reads one atom at a place exactly; a string is a part of the source.
+///
+/// ```
+/// use dimewagon::{read_atom_exact, Refusal};
+///
+/// let read = read_atom_exact(&[0x00, 0xE2, 0x61, 0x62], 1, 9)?;
+/// assert_eq!(read.atom.nucleus.bytes(), Some(&b"ab"[..]));
+/// assert_eq!((read.place, read.budget), (4, 7));
+/// # Ok::<(), dimewagon::Stopped>(())
+/// ```
 pub fn read_atom_exact(source: &[u8], place: usize, budget: u64) -> Result<Read<'_>, Stopped> {
-    let answer =
-        call(|words, len| unsafe { ffi::pot_read_atom_exact(source.as_ptr(), source.len(), place, budget, words, len) });
-    read(source, place, answer)
+    read(calls::pot_read_atom_exact(source, place, budget), source, place.min(source.len()))
 }
 
-/// Reads one atom exactly; a string is copied into the scratch.
-pub fn read_atom_copied<'a>(source: &[u8], place: usize, budget: u64, scratch: &'a mut [u8]) -> Result<Read<'a>, Stopped> {
-    let (room, size) = (scratch.as_mut_ptr(), scratch.len());
-    let answer = call(|words, len| unsafe {
-        ffi::pot_read_atom_copied(source.as_ptr(), source.len(), place, budget, room, size, words, len)
-    });
-    read(scratch, place, answer)
+/// Reads one atom at a place exactly; a string is copied into the scratch.
+///
+/// ```
+/// use dimewagon::{read_atom_copied, Nucleus};
+///
+/// let mut scratch = [0; 4];
+/// let read = read_atom_copied(&[0xE2, 0x61, 0x62], 0, 2, &mut scratch)?;
+/// assert_eq!(read.atom.nucleus, Nucleus::Bytes(b"ab"));
+/// assert_eq!(scratch, [0x61, 0x62, 0, 0]);
+/// # Ok::<(), dimewagon::Stopped>(())
+/// ```
+pub fn read_atom_copied<'a>(
+    source: &[u8],
+    place: usize,
+    budget: u64,
+    scratch: &'a mut [u8],
+) -> Result<Read<'a>, Stopped> {
+    let answer = calls::pot_read_atom_copied(source, place, budget, scratch);
+    read(answer, scratch, place.min(source.len()))
+}
+
+/// An atom that was read without its value.
+#[derive(Clone, Copy, Debug, PartialEq, Eq)]
+#[non_exhaustive]
+pub struct Skipped {
+    /// The place after it.
+    pub place: usize,
+    /// The budget left.
+    pub budget: u64,
+    /// Where its body starts.
+    pub body: usize,
+    /// Whether it is a string.
+    pub string: bool,
+}
+
+/// Reads one atom at a place exactly, and builds no value.
+///
+/// ```
+/// let skipped = dimewagon::skip_atom(&[0xE2, 0x61, 0x62, 0x00], 0, 9)?;
+/// assert_eq!((skipped.body, skipped.place, skipped.budget, skipped.string), (1, 3, 7, true));
+/// # Ok::<(), dimewagon::Stopped>(())
+/// ```
+pub fn skip_atom(source: &[u8], place: usize, budget: u64) -> Result<Skipped, Stopped> {
+    let (number, w) = calls::pot_skip_atom(source, place, budget);
+    let (start, place, budget) = (place.min(source.len()), w[0] as usize, w[1]);
+    if number != 0 {
+        let refusal = Refusal::of(number, w[2], w[3]);
+        return Err(Stopped { refusal, place, budget, start, atoms: 0 });
+    }
+    Ok(Skipped { place, budget, body: w[2] as usize, string: w[3] == 1 })
 }
 
 /// The atoms of a source, read exactly, until its end or the first refusal.
@@ -77,22 +152,61 @@ pub struct Atoms<'a> {
 }
 
 impl<'a> Atoms<'a> {
-    /// The atoms, with the largest budget.
+    /// The version of a file, and its atoms. Places count from the file's start.
+    ///
+    /// ```
+    /// let (version, mut atoms) = dimewagon::Atoms::of_file(b"Pot\x01\x40\x05\x24")?;
+    /// assert_eq!(version, 1);
+    /// assert!(atoms.next().unwrap().is_ok());
+    /// assert_eq!(atoms.next().unwrap().unwrap_err().start, 6);
+    /// assert!(atoms.next().is_none());
+    /// # Ok::<(), dimewagon::Stopped>(())
+    /// ```
+    pub fn of_file(file: &'a [u8]) -> Result<(u8, Self), Stopped> {
+        let (version, body) = read_header_exact(file)?;
+        Ok((version, Self { place: file.len() - body.len(), ..Self::new(file) }))
+    }
+
+    /// The atoms of a source, which has no signature, with the largest budget.
+    ///
+    /// ```
+    /// assert_eq!(dimewagon::Atoms::new(&[0x40, 0x05, 0x00]).count(), 2);
+    /// ```
     pub fn new(source: &'a [u8]) -> Self {
         Self::with_budget(source, u64::MAX)
     }
 
-    /// The atoms, with a budget for what their values take in memory.
+    /// The atoms of a source, which has no signature, with a budget for what their values take in memory.
+    ///
+    /// ```
+    /// use dimewagon::{Atoms, Refusal};
+    ///
+    /// let mut atoms = Atoms::with_budget(&[0x40, 0x05, 0x40, 0x06], 1);
+    /// assert!(atoms.next().unwrap().is_ok());
+    /// assert_eq!(atoms.next().unwrap().unwrap_err().refusal, Refusal::TooManyBytesRead);
+    /// ```
     pub fn with_budget(source: &'a [u8], budget: u64) -> Self {
         Self { source, place: 0, budget, atoms: 0, stopped: false }
     }
 
     /// The place after the atoms that were read.
+    ///
+    /// ```
+    /// let mut atoms = dimewagon::Atoms::new(&[0x40, 0x05, 0x00]);
+    /// atoms.next();
+    /// assert_eq!(atoms.place(), 2);
+    /// ```
     pub fn place(&self) -> usize {
         self.place
     }
 
     /// The budget left.
+    ///
+    /// ```
+    /// let mut atoms = dimewagon::Atoms::with_budget(&[0x40, 0x05, 0x00], 9);
+    /// atoms.next();
+    /// assert_eq!(atoms.budget(), 8);
+    /// ```
     pub fn budget(&self) -> u64 {
         self.budget
     }
@@ -118,12 +232,19 @@ impl<'a> Iterator for Atoms<'a> {
             }
         }
     }
+
+    /// An atom has at least one byte.
+    fn size_hint(&self) -> (usize, Option<usize>) {
+        let most = if self.stopped { 0 } else { self.source.len() - self.place };
+        (most.min(1), Some(most))
+    }
 }
 
 impl FusedIterator for Atoms<'_> {}
 
 /// What a run answers.
 #[derive(Clone, Copy, Debug, PartialEq, Eq)]
+#[non_exhaustive]
 pub struct Ran {
     /// How many atoms were read.
     pub atoms: u64,
@@ -131,9 +252,18 @@ pub struct Ran {
     pub budget: u64,
 }
 
-/// Reads all atoms exactly, and builds no value.
+/// Reads all atoms of a source, which has no signature, exactly, and builds no value.
+///
+/// ```
+/// let source = [0xE3, 0x6E, 0xC3, 0xA9, 0x41, 0x2C, 0x01];
+/// let ran = dimewagon::run(&source, 20)?;
+/// assert_eq!((ran.atoms, ran.budget), (2, 15));
+/// let stopped = dimewagon::run(&source, 4).unwrap_err();
+/// assert_eq!(stopped.to_string(), "refusal 5 at 4: the budget is exceeded");
+/// # Ok::<(), dimewagon::Stopped>(())
+/// ```
 pub fn run(source: &[u8], budget: u64) -> Result<Ran, Stopped> {
-    let (number, w) = call(|words, len| unsafe { ffi::pot_run(source.as_ptr(), source.len(), budget, words, len) });
+    let (number, w) = calls::pot_run(source, budget);
     let (place, budget, atoms) = (w[0] as usize, w[1], w[2]);
     if number != 0 {
         let refusal = Refusal::of(number, w[4], w[5]);
@@ -144,6 +274,7 @@ pub fn run(source: &[u8], budget: u64) -> Result<Ran, Stopped> {
 
 /// What a source holds.
 #[derive(Clone, Copy, Debug, PartialEq, Eq)]
+#[non_exhaustive]
 pub struct Tally {
     /// Its atoms.
     pub atoms: u64,
@@ -155,11 +286,19 @@ pub struct Tally {
     pub letters: u64,
 }
 
-/// Counts all atoms; the error is the refusal, and where the refused atom starts.
-pub fn tally(source: &[u8]) -> Result<Tally, (Refusal, usize)> {
-    let (number, w) = call(|words, len| unsafe { ffi::pot_tally(source.as_ptr(), source.len(), words, len) });
+/// Counts all atoms of a source, which has no signature, exactly and without a budget.
+///
+/// ```
+/// let tally = dimewagon::tally(&[0xE3, 0x6E, 0xC3, 0xA9, 0x41, 0x2C, 0x01])?;
+/// assert_eq!((tally.atoms, tally.body, tally.charge, tally.letters), (2, 5, 5, 2));
+/// let refused = dimewagon::tally(&[0x40, 0x00, 0x24]).unwrap_err();
+/// assert_eq!(refused.to_string(), "refusal 6 at 2: Int of 5 bytes");
+/// # Ok::<(), dimewagon::Refused>(())
+/// ```
+pub fn tally(source: &[u8]) -> Result<Tally, Refused> {
+    let (number, w) = calls::pot_tally(source);
     if number != 0 {
-        return Err((Refusal::of(number, w[1], w[2]), w[0] as usize));
+        return Err(Refused { refusal: Refusal::of(number, w[1], w[2]), start: w[0] as usize });
     }
     Ok(Tally { atoms: w[0], body: w[1], charge: w[2], letters: w[3] })
 }

@@ -1,30 +1,38 @@
+use std::error::Error;
 use std::fmt;
 
 use crate::Kind;
 
-/// Why something was refused.
-#[derive(Clone, Copy, Debug, PartialEq, Eq)]
+/// Why something was refused. Each refusal has a number, the same in every language, and its text begins with it.
+///
+/// ```
+/// use dimewagon::Refusal;
+///
+/// assert_eq!(Refusal::Eof.to_string(), "refusal 4: the input ends");
+/// ```
+#[derive(Clone, Copy, Debug, PartialEq, Eq, Hash)]
 #[non_exhaustive]
 pub enum Refusal {
-    /// The bits of the signature are missing.
+    /// 1: the bits of the signature are missing.
     IncompatibleVersion,
-    /// A code that no kind has.
+    /// 2: a code that no kind has.
     InvalidKind(u64),
-    /// A code that no special has.
+    /// 3: a code that no special has.
     UnknownSpecial(u64),
-    /// The input ends.
+    /// 4: the input ends.
     Eof,
-    /// The charge exceeds the budget.
+    /// 5: the charge exceeds the budget.
     TooManyBytesRead,
-    /// A number of a width that is not allowed.
+    /// 6: a number of a width that is not allowed, by its kind and its bytes.
     UnsupportedByteCount(Kind, u64),
-    /// A number of another kind than the one wanted.
+    /// 7: a number of another kind than the one wanted.
     UnexpectedKind(Kind, Kind),
-    /// A cast that would lose data, or a value that its writer does not hold.
+    /// 8: a cast that would lose data, or a value that its writer does not hold.
     ImpreciseCastWouldLoseData,
-    /// The output, or the scratch, is too short.
+    /// 9: the output, or the scratch, is too short. Match it as `NoRoom { .. }`, since it may come to say how much is needed.
+    #[non_exhaustive]
     NoRoom,
-    /// The input of a tally is too long.
+    /// 10: the input of a tally has more than 16,777,216 bytes.
     TooLong,
 }
 
@@ -42,11 +50,18 @@ impl Refusal {
             8 => Self::ImpreciseCastWouldLoseData,
             9 => Self::NoRoom,
             10 => Self::TooLong,
+            // The library is proved to answer no other.
             _ => unreachable!("no refusal has the number {number}"),
         }
     }
 
     /// The refusal's number.
+    ///
+    /// ```
+    /// let refusal = dimewagon::write_none(&mut []).unwrap_err();
+    /// assert!(matches!(refusal, dimewagon::Refusal::NoRoom { .. }));
+    /// assert_eq!(refusal.number(), 9);
+    /// ```
     pub fn number(self) -> u64 {
         match self {
             Self::IncompatibleVersion => 1,
@@ -61,10 +76,8 @@ impl Refusal {
             Self::TooLong => 10,
         }
     }
-}
 
-impl fmt::Display for Refusal {
-    fn fmt(&self, f: &mut fmt::Formatter<'_>) -> fmt::Result {
+    fn reason(self, f: &mut fmt::Formatter<'_>) -> fmt::Result {
         match self {
             Self::IncompatibleVersion => f.write_str("incompatible version"),
             Self::InvalidKind(code) => write!(f, "invalid kind {code}"),
@@ -80,31 +93,60 @@ impl fmt::Display for Refusal {
     }
 }
 
-impl std::error::Error for Refusal {}
+impl fmt::Display for Refusal {
+    fn fmt(&self, f: &mut fmt::Formatter<'_>) -> fmt::Result {
+        write!(f, "refusal {}: ", self.number())?;
+        self.reason(f)
+    }
+}
 
-/// A refusal, and where reading stopped.
-#[derive(Clone, Copy, Debug, PartialEq, Eq)]
+impl Error for Refusal {}
+
+/// A refusal, and where the refused atom starts. Its text has both, so it names no source.
+#[derive(Clone, Copy, Debug, PartialEq, Eq, Hash)]
+#[non_exhaustive]
+pub struct Refused {
+    /// Why.
+    pub refusal: Refusal,
+    /// Where the refused atom starts; 0 of a signature, or of an input that is too long.
+    pub start: usize,
+}
+
+impl fmt::Display for Refused {
+    fn fmt(&self, f: &mut fmt::Formatter<'_>) -> fmt::Result {
+        write!(f, "refusal {} at {}: ", self.refusal.number(), self.start)?;
+        self.refusal.reason(f)
+    }
+}
+
+impl Error for Refused {}
+
+/// A refusal, and where reading stopped. Its text is that of [`Refused`].
+#[derive(Clone, Copy, Debug, PartialEq, Eq, Hash)]
+#[non_exhaustive]
 pub struct Stopped {
     /// Why.
     pub refusal: Refusal,
     /// The place after the refusal.
     pub place: usize,
-    /// The budget left.
+    /// The budget left; 0 of a signature, which takes none.
     pub budget: u64,
-    /// Where the refused atom starts.
+    /// Where the refused atom starts; 0 of a signature.
     pub start: usize,
-    /// How many atoms were read before it.
+    /// How many atoms were read before it, by the same run or iterator.
     pub atoms: u64,
+}
+
+impl From<Stopped> for Refused {
+    fn from(stopped: Stopped) -> Self {
+        Self { refusal: stopped.refusal, start: stopped.start }
+    }
 }
 
 impl fmt::Display for Stopped {
     fn fmt(&self, f: &mut fmt::Formatter<'_>) -> fmt::Result {
-        write!(f, "{} at {}", self.refusal, self.start)
+        Refused::from(*self).fmt(f)
     }
 }
 
-impl std::error::Error for Stopped {
-    fn source(&self) -> Option<&(dyn std::error::Error + 'static)> {
-        Some(&self.refusal)
-    }
-}
+impl Error for Stopped {}

@@ -1,5 +1,6 @@
 //! The layout of the words, from this side: what the library writes for examples of document 01. The same answers stand in
-//! crates/promises/proofs/Laid.antt, where they are proved of the definitions.
+//! crates/promises/proofs/Laid.antt, where they are proved of the definitions. Every call here gives the pointer and the
+//! length of one live slice for each slice.
 use dimewagon::ffi::*;
 
 const OLD: u64 = 77;
