@@ -186,7 +186,7 @@ if-signed a b h = by (sameSign (sign a) signed) (equalIntegers a b) h
   where
     by : (t e : Bool) → (t && e) ≡ true → true ≡ e
     by true e h = sym h
-    by false e h = absurd (no h)
+    by false e h = absurd (false≢true h)
 
 pub else-unsigned : (a b : Integer) → equalOf signed a b ≡ false → equalOf unsigned a b ≡ equalIntegers a b
 unfolding equalOf
