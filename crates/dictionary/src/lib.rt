@@ -112,10 +112,11 @@ pub fn skip_atom(source: &[u8], place: Place, budget: Budget) -> Skipped
 }
 
 // Where an atom ends that the run and the tally pass without asking `skip_atom`: a UInt of one byte, a string or a sequence
-// whose header is one byte, as nearly all of a dictionary's are. Of any other, or one that is refused, its start.
+// whose header is one byte, as nearly all of a dictionary's are. Of any other, or one that is refused, its start. The charge
+// of each of the three is the length of its body.
 fn short_end(source: &[u8], at: usize, left: u64) -> usize
     requires { ⌜ at < length (now source) ⌝ }
-    ensures { λ r. ⌜ (r ≤ length (now (source .entry))) × (r ≤ at + 1 + left) × (at < r → ShortPast (now (source .entry)) at left r) ⌝ }
+    ensures { λ r. ⌜ (r ≤ length (now (source .entry))) × (r - (at + 1) ≤ left) × (at < r → ShortPast (now (source .entry)) at left r) ⌝ }
 {
     let first = source[at];
     let room = source.len() - at;
@@ -153,7 +154,8 @@ pub fn run(source: &[u8], budget: Budget) -> Ran
         let short = short_end(source, at, left);
         if at < short {
             atoms += 1;
-            left -= (short - at - 1) as u64;
+            let charge = (short - at - 1) as u64;
+            left -= charge;
             at = short;
             continue;
         }

@@ -30,6 +30,8 @@ use Rattle.types.specs.declared.BudgetAnswer.the-variants as BA
 use Rattle.types.specs.declared.HeaderAnswer.{HeaderAnswer}
 use Rattle.types.specs.declared.HeaderAnswer.the-variants as H
 use Rattle.types.specs.declared.AtomAnswer.{AtomAnswer}
+use Rattle.types.proofs.Places.{place-same}
+use Rattle.types.proofs.Specials.{special-unknown}
 use Rattle.header.specs.Header.{headerRead, headerFrom, headerLength, headerKind, headerArgument}
 use Rattle.reader.specs.Strings.{stringAnswer, stringScratch, scratchNeeded, startOf}
 use Rattle.reader.proofs.Delivered.{Outcome, whole, cut, cramped, outcome, string-read, string-eof, string-no-room}
@@ -50,17 +52,7 @@ unknown-kind n h = simp (differs 0 (omega arith), differs 1 (omega arith), diffe
     differs : (i : ℕ) → i < 8 → eqb n i ≡ false
     differs i k = ne-eqb n i (λ e. omega arith)
 
--- a special argument of 7 or more is none of the seven
-pub unknown-special : (n : ℕ) → 7 ≤ n → specialFrom n ≡ SA.Refused (R.UnknownSpecial n)
-unknown-special n h = simp (differs 0 (omega arith), differs 1 (omega arith), differs 2 (omega arith), differs 3 (omega arith), differs 4 (omega arith), differs 5 (omega arith), differs 6 (omega arith))
-  where
-    differs : (i : ℕ) → i < 7 → eqb n i ≡ false
-    differs i k = ne-eqb n i (λ e. omega arith)
-
--- a place within the source is itself, one past it is the end
-pub inside : (n at : ℕ) → at ≤ n → placeIn n at ≡ at
-inside n at h = simp (le-ltb n at h)
-
+-- a place past the source is its end
 pub outside : (n at : ℕ) → n < at → placeIn n at ≡ n
 outside n at h = simp (lt-ltb n at h)
 
@@ -101,7 +93,7 @@ module _ (way : Way) (s : List ℕ) (budget : Budget) (scratch : List ℕ) (next
       let same : next .0 + bodyLength kind arg ≡ next .0 = omega arith in
       read-as kind (next .0) (budget .0) scratch holds
       (record { form-known = k; afforded = omega arith; body-there = inl there; room-there = omega arith })
-      (inside (length s) (next .0 + bodyLength kind arg) there ∙ same) (omega arith) h
+      (place-same (length s) (next .0 + bodyLength kind arg) there ∙ same) (omega arith) h
 
   -- a charge, and what follows it
   charges : (kind : Kind) (body : Budget → AtomAnswer) (after : BudgetAnswer → List ℕ) (t : Bool) → ltb (budget .0) (chargeOf kind arg) ≡ t → after (BA.Refused R.TooManyBytesRead) ≡ scratch → (chargeOf kind arg ≤ budget .0 → Row way s budget scratch (H.Read next kind arg) (toldAtom (body (less budget (chargeOf kind arg)))) (after (BA.Left (less budget (chargeOf kind arg))))) → Row way s budget scratch (H.Read next kind arg) (toldAtom (charged next budget (pick t (BA.Refused R.TooManyBytesRead) (BA.Left (less budget (chargeOf kind arg)))) body)) (after (pick t (BA.Refused R.TooManyBytesRead) (BA.Left (less budget (chargeOf kind arg)))))
@@ -116,7 +108,7 @@ module _ (way : Way) (s : List ℕ) (budget : Budget) (scratch : List ℕ) (next
       let room : roomOf way kind arg ≡ 0 = ap (λ (x : Bool). pick x (scratchNeeded way arg) 0) (no-string kind w) in
       read-as kind (next .0 + countOf arg) (budget .0 - chargeOf kind arg) scratch holds
       (record { form-known = k; afforded = b; body-there = inl there′; room-there = omega arith })
-      (inside (length s) (next .0 + bodyLength kind arg) there′ ∙ ap (λ (m : ℕ). next .0 + m) n) refl (its-scratch way s kind w arg next budget scratch)
+      (place-same (length s) (next .0 + bodyLength kind arg) there′ ∙ ap (λ (m : ℕ). next .0 + m) n) refl (its-scratch way s kind w arg next budget scratch)
 
   -- or whose end is filled
   number-filled : (kind : Kind) (holds : List ℤ) → Number kind → known kind arg ≡ true → chargeOf kind arg ≤ budget .0 → length s < next .0 + countOf arg → exact way ≡ false → Row way s budget scratch (H.Read next kind arg) (told 0 (pos (length s) ∷ pos (budget .0 - chargeOf kind arg) ∷ pos (kindCode kind) ∷ pos arg ∷ holds)) scratch
@@ -159,7 +151,7 @@ module _ (way : Way) (s : List ℕ) (budget : Budget) (scratch : List ℕ) (next
       rw (string-read way s (next .0) arg scratch w r)
       (read-as K.Bytes (startOf s (next .0) + arg) (budget .0 - arg) (stringScratch way s (next .0) arg scratch) _
       (record { form-known = refl; afforded = b; body-there = inl there; room-there = r })
-      (inside (length s) (next .0 + arg) there ∙ ap (λ (n : ℕ). n + arg) (sym at)) refl
+      (place-same (length s) (next .0 + arg) there ∙ ap (λ (n : ℕ). n + arg) (sym at)) refl
       (ap (scratchCharged way s (next .0) arg scratch) (paid budget arg b)))
   strings b h (cut w) =
       let e = string-eof way s (next .0) arg scratch w in
@@ -179,7 +171,7 @@ specials way s budget scratch next (suc (suc (suc zero))) h = headed way s budge
 specials way s budget scratch next (suc (suc (suc (suc zero)))) h = headed way s budget scratch next 4 K.Special _ refl refl refl refl refl h
 specials way s budget scratch next (suc (suc (suc (suc (suc zero))))) h = headed way s budget scratch next 5 K.Special _ refl refl refl refl refl h
 specials way s budget scratch next (suc (suc (suc (suc (suc (suc zero)))))) h = headed way s budget scratch next 6 K.Special _ refl refl refl refl refl h
-specials way s budget scratch next (suc (suc (suc (suc (suc (suc (suc n))))))) h = let k : 7 ≤ suc (suc (suc (suc (suc (suc (suc n)))))) = omega arith in rw (unknown-special (suc (suc (suc (suc (suc (suc (suc n))))))) k) (three k)
+specials way s budget scratch next (suc (suc (suc (suc (suc (suc (suc n))))))) h = let k : 7 ≤ suc (suc (suc (suc (suc (suc (suc n)))))) = omega arith in rw (special-unknown (suc (suc (suc (suc (suc (suc (suc n))))))) k) (three k)
 
 -- what follows a header
 after-header : (way : Way) (s : List ℕ) (budget : Budget) (scratch : List ℕ) (next : Place) (arg : ℕ) (kind : Kind) → next .0 ≤ length s → Row way s budget scratch (H.Read next kind arg) (toldAtom (atomAfter way s kind arg next budget scratch)) (scratchAfter way s kind arg next budget scratch)

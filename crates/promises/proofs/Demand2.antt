@@ -3,7 +3,7 @@
 -- or copied, from any budget of at least the price, leaving the budget less the price. Strings and specials rest on
 -- `atom.Back.bytes-back` and `atom.Back.special-back`.
 use mathlib.Core.Path.{_≡_, refl, _∙_, sym, ap, subst}
-use mathlib.Core.Bool.{true, false}
+use mathlib.Core.Bool.{true, false, false≢true}
 use mathlib.Core.List.{List, [], _++_, append-assoc, append-nil}
 use Prim.Native.Nat.{ℕ, _+_, _-_, _/_, _≤_, _<_, _^_}
 use native.Mathlib.Omega.{arith}
@@ -19,6 +19,8 @@ use Rattle.types.specs.declared.Place.{Place}
 use Rattle.types.specs.declared.Budget.{Budget}
 use Rattle.types.specs.declared.Nucleus.the-variants as N
 use Rattle.types.specs.declared.AtomAnswer.the-variants as A
+use Rattle.types.proofs.Places.{place-same}
+use Rattle.types.proofs.Specials.{special-small}
 use Rattle.header.specs.Header.{headerBytes, headerFrom, headerArgument}
 use Rattle.header.proofs.RoundTrip.{header-back, back}
 use Rattle.reader.specs.Strings.{stringMark, stringScratch, scratchNeeded}
@@ -39,6 +41,7 @@ use Rattle.integer.proofs.Answers.{from-body}
 use Rattle.integer.proofs.RoundTrip.{body-back, int-value-back, uint-value}
 use Rattle.writers.specs.Bytes.{integerBytes, signedBytes, unsignedBytes, valueBytes}
 use Rattle.float.specs.Floats.{floatOf}
+use Rattle.float.specs.Bytes.{floatBytes}
 use Rattle.float.proofs.Counts.{Allowed, two, four, eight, allowed-is}
 use Rattle.float.proofs.Stored.{Stored, stored-single, stored-double, meaning-kept}
 use Rattle.float.proofs.RoundTrip as floats
@@ -57,26 +60,22 @@ use Rattle.types.specs.declared.Float.the-variants as F
 use Rattle.cast.specs.Variants.{sign, width, value, inRange}
 use Rattle.promises.specs.Rows.{Number, int, uint, float}
 use Rattle.promises.specs.Values.{Value, number, natural, integer, f32-bits, f64-bits, f32, f64, special, string, header, HeaderOnly, sequence, map, symbol, kindOf, written, roomFor, Carries, number-carried, natural-carried, integer-carried, f32-bits-carried, f64-bits-carried, f32-carried, f64-carried, special-carried, string-carried, header-carried, ReadBack}
-use Rattle.promises.proofs.Demand1.{inside}
 use Rattle.promises.proofs.SameValue.{same-value, same-words}
 
 -- a count of 1 to 16 is its argument plus 1
 counted : (n : ℕ) → 0 < n → n ≤ 16 → n ≡ countOf (n - 1)
 counted n p q = omega arith
 
-never : false ≡ true → ⊥
-never h = let z : _≡_ {A = ℕ} 0 1 = cc in omega arith
-
 -- what follows an integer's header
 after-integer : (way : Way) (s : List ℕ) (kind : Kind) (arg : ℕ) (next : Place) (budget : Budget) (scratch : List ℕ) → integerKind kind ≡ true → atomAfter way s kind arg next budget scratch ≡ integerAfter way s kind arg next budget
-after-integer way s K.Special arg next budget scratch e = absurd (never e)
+after-integer way s K.Special arg next budget scratch e = absurd (false≢true e)
 after-integer way s K.Int arg next budget scratch e = refl
 after-integer way s K.UInt arg next budget scratch e = refl
-after-integer way s K.Float arg next budget scratch e = absurd (never e)
-after-integer way s K.Sequence arg next budget scratch e = absurd (never e)
-after-integer way s K.Map arg next budget scratch e = absurd (never e)
-after-integer way s K.Symbol arg next budget scratch e = absurd (never e)
-after-integer way s K.Bytes arg next budget scratch e = absurd (never e)
+after-integer way s K.Float arg next budget scratch e = absurd (false≢true e)
+after-integer way s K.Sequence arg next budget scratch e = absurd (false≢true e)
+after-integer way s K.Map arg next budget scratch e = absurd (false≢true e)
+after-integer way s K.Symbol arg next budget scratch e = absurd (false≢true e)
+after-integer way s K.Bytes arg next budget scratch e = absurd (false≢true e)
 
 -- a number of an allowed count, whatever wrote it
 pub integer-back : (way : Way) (kind : Kind) (n bits : ℕ) (before after : List ℕ) (budget : Budget) (scratch : List ℕ) → integerKind kind ≡ true → allowedCount n ≡ true → bits < 256 ^ n → numberCharge n ≤ budget .0 → atomRead way (before ++ (integerBytes kind n bits ++ after)) (length before) budget scratch ≡ A.Read (record { 0 = length before + length (integerBytes kind n bits) }) (record { 0 = budget .0 - numberCharge n }) (atomOf kind (n - 1) (N.Integer (integerOf kind n bits)))
@@ -136,7 +135,7 @@ float-back way own bits bytes before after S budget scratch b =
     let back = floats.written-back way own bits bytes before after S in
     let range = float-bounds n (allowed-is n (S .its-count)) in
     let long : length s ≡ length before + (length bytes + length after) = simp length-append in
-    let at : placeIn (length s) (length before) ≡ length before = inside (length s) (length before) (omega arith) in
+    let at : placeIn (length s) (length before) ≡ length before = place-same (length s) (length before) (omega arith) in
     let next : Place = record { 0 = length before + 1 } in
     let left : Budget = record { 0 = budget .0 - numberCharge n } in
     ap (λ (p : ℕ). atomFrom way s budget scratch (headerFrom way s p)) at
@@ -152,7 +151,7 @@ bytes-delivered way before bytes after budget scratch l b r =
     let hd : List ℕ = headerBytes K.Bytes n in
     let s : List ℕ = before ++ (hd ++ (bytes ++ after)) in
     let long : length s ≡ length before + (length hd + length (bytes ++ after)) = simp length-append in
-    let at : placeIn (length s) (length before) ≡ length before = inside (length s) (length before) (omega arith) in
+    let at : placeIn (length s) (length before) ≡ length before = place-same (length s) (length before) (omega arith) in
     let split : s ≡ (before ++ hd) ++ (bytes ++ after) = sym (append-assoc before hd (bytes ++ after)) in
     let place : length (before ++ hd) ≡ length before + length hd = length-append before hd in
     let header = ap (λ (p : ℕ). headerFrom way s p) at ∙ header-back way K.Bytes n before (bytes ++ after) l in
@@ -192,24 +191,19 @@ unfolding unsignedBytes
 unsigned-price k h = integer-price K.UInt uint (shortestU k) k (shortestU-listed k h)
 
 float-price : (own bits : ℕ) (bytes : List ℕ) (S : Stored own bits bytes) → price bytes ≡ numberCharge (S .count)
+unfolding floatBytes
 float-price own bits bytes S =
     let a = allowed-is (S .count) (S .its-count) in
     let range = float-bounds (S .count) a in
     let arg : S .count - 1 < 2 ^ 64 = omega (arith, range .1) in
-    ap price (S .its-bytes ∙ floats.float-headed (S .count) (S .stored) a)
+    ap price (S .its-bytes)
     ∙ price-headed K.Float (S .count - 1) (toLE (S .count) (S .stored)) arg
     ∙ number-charge K.Float float (S .count) (range .0) (range .1)
 
 -- ---- every value
 
 small : (s : Special) → specialCode s < 2 ^ 64
-small S.None = omega arith
-small S.Unit = omega arith
-small S.False = omega arith
-small S.True = omega arith
-small S.Named = omega arith
-small S.DynamicMap = omega arith
-small S.DynamicEnd = omega arith
+small s = omega (arith, special-small s)
 
 less-nothing : (n : ℕ) → n ≡ n - 0
 less-nothing n = omega arith

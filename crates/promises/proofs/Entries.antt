@@ -35,16 +35,18 @@ use Rattle.dictionary.specs.Runs.{mostBytes}
 use Rattle.report.specs.Reports.{reportOf, mostFileBytes}
 use Rattle.promises.specs.Told.{Told, told, toldKind, toldSpecial, toldHeader, toldVersion, toldInteger, toldFloat, toldBytes, toldWritten}
 use Rattle.promises.specs.Entries.{There, Cut, onward, headerEnd, KindRows, SpecialRows, HeaderRows, SignatureRows, BudgetRows, IntegerRows, FloatRows, StringRows, RawRows, WriterRows, HeldRows, LengthRows}
-use Rattle.promises.proofs.Demand1.{inside, outside, unknown-special, unknown-kind}
+use Rattle.types.proofs.Places.{place-same}
+use Rattle.types.proofs.Specials.{special-unknown}
+use Rattle.promises.proofs.Demand1.{outside, unknown-kind}
 
 -- what is there is taken up to its end, or to the source's
 up-there : {X : Type 0} (way : Way) (s : List ℕ) (end : ℕ) (taken : ℕ → X) (eof : X) → There way s end → upTo way (length s) end taken eof ≡ taken (placeIn (length s) end)
-up-there way s end taken eof (inl h) = up-to-within way (length s) end taken eof h ∙ ap taken (sym (inside (length s) end h))
+up-there way s end taken eof (inl h) = up-to-within way (length s) end taken eof h ∙ ap taken (sym (place-same (length s) end h))
 up-there way s end taken eof (inr e) = by (ltb (length s) end) refl
   where
     by : (t : Bool) → ltb (length s) end ≡ t → upTo way (length s) end taken eof ≡ taken (placeIn (length s) end)
     by true k = let h = ltb-true (length s) end k in up-to-filled way (length s) end taken eof h e ∙ ap taken (sym (outside (length s) end h))
-    by false k = let h = ltb-false (length s) end k in up-to-within way (length s) end taken eof h ∙ ap taken (sym (inside (length s) end h))
+    by false k = let h = ltb-false (length s) end k in up-to-within way (length s) end taken eof h ∙ ap taken (sym (place-same (length s) end h))
 
 up-cut : {X : Type 0} (way : Way) (s : List ℕ) (end : ℕ) (taken : ℕ → X) (eof : X) → Cut way s end → upTo way (length s) end taken eof ≡ eof
 up-cut way s end taken eof c = up-to-eof way (length s) end taken eof (c .0) (c .1)
@@ -74,7 +76,7 @@ pub kinds : (code : ℕ) → KindRows code
 kinds code = record { taken = kind-known code; two = λ h. ap toldKind (unknown-kind code h) }
 
 pub specials : (arg : ℕ) → SpecialRows arg
-specials arg = record { taken = special-known arg; three = λ h. ap toldSpecial (unknown-special arg h) }
+specials arg = record { taken = special-known arg; three = λ h. ap toldSpecial (special-unknown arg h) }
 
 pub headers : (way : Way) (s : List ℕ) (place : ℕ) → HeaderRows way s place
 unfolding headerFrom

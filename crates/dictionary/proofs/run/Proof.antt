@@ -31,14 +31,14 @@ short-end-requires c κs = search needs
 add-atoms : tie.Need-add-atoms Inv-loop μ-loop
 add-atoms c = search needs
 
+sub-charge : tie.Need-sub-charge Inv-loop μ-loop
+sub-charge c = search needs
+
+sub-charge-2 : tie.Need-sub-charge-2 Inv-loop μ-loop
+sub-charge-2 c = search needs
+
 sub-left : tie.Need-sub-left Inv-loop μ-loop
-sub-left c = search needs
-
-sub-left-2 : tie.Need-sub-left-2 Inv-loop μ-loop
-sub-left-2 c = search needs
-
-sub-left-3 : tie.Need-sub-left-3 Inv-loop μ-loop
-sub-left-3 c = omega (arith, c .before .short-end .ensures .1)
+sub-left c = omega (arith, c .before .short-end .ensures .1)
 
 loop-less : tie.Need-loop-less Inv-loop μ-loop
 loop-less c = omega (arith, c .before .short-end .ensures .0)
@@ -104,9 +104,9 @@ run-spec =
     loop-holds
     short-end-requires
     add-atoms
+    sub-charge
+    sub-charge-2
     sub-left
-    sub-left-2
-    sub-left-3
     loop-less
     loop-again
     skip-atom-requires
