@@ -1,5 +1,5 @@
 -- THE PRICE OF A FILE IS EXACT (demand 3): what the tally and the run answer of a list of whole, known atoms; and what the tally
--- answers of every other input. It rests on the step at one atom, by induction over the list.
+-- answers of every other input. It rests on the step at one atom, by induction over the list: one law of a walk for both.
 use mathlib.Core.Path.{_≡_, refl, _∙_, sym, ap, subst}
 use mathlib.Core.Bool.{Bool, true, false, false≢true}
 use mathlib.Core.List.{List, [], _∷_, _++_, append-assoc, append-nil}
@@ -43,10 +43,16 @@ unfolding total
 price-body [] = omega arith
 price-body (atom ∷ atoms) = three-four (price atom) (total price atoms) (bodyBytes atom) (total bodyBytes atoms) (price-bound (headerKind atom) (headerArgument atom)) (price-body atoms)
 
--- THE TALLY passes over whole, known atoms, and adds what each has
-unfoldable summed : Tallied → List (List ℕ) → Tallied
-summed t [] = t
-summed t (atom ∷ atoms) = summed (plus t atom) atoms
+-- A WALK PASSES OVER WHOLE, KNOWN ATOMS, whatever it holds: after each, what `next` makes of it, as long as it covers them
+unfoldable passed : {X : Type 0} → (X → List ℕ → X) → X → List (List ℕ) → X
+passed next x [] = x
+passed next x (atom ∷ atoms) = passed next (next x atom) atoms
+
+-- a turn of a walk over an atom that stands at a place
+abbrev Turn : {X Y : Type 0} → (ℕ → List ℕ → ℕ → X → Y) → (X → List ℕ → X) → (X → List (List ℕ) → Type 0) → Type 0
+Turn {X} walk next Covers =
+    (s : List ℕ) (fuel left at : ℕ) (x : X) (atom after : List ℕ) (atoms : List (List ℕ)) → fuel ≡ suc left → at < length s → at ≤ length s → drop at s ≡ atom ++ after → IsAtom atom → Covers x (atom ∷ atoms)
+    → (walk fuel s at x ≡ walk left s (at + length atom) (next x atom)) × Covers (next x atom) atoms
 
 regroup : (s : List ℕ) (at : ℕ) (a b c : List ℕ) → drop at s ≡ (a ++ b) ++ c → drop at s ≡ a ++ (b ++ c)
 regroup s at a b c h = h ∙ append-assoc a b c
@@ -54,21 +60,37 @@ regroup s at a b c h = h ∙ append-assoc a b c
 further : (at n m : ℕ) → at + (n + m) ≡ at + n + m
 further at n m = omega arith
 
-tally-over : (s : List ℕ) {l : List ℕ} {atoms : List (List ℕ)} → Atoms l atoms → (after : List ℕ) (fuel left at end : ℕ) (t : Tallied) → fuel ≡ length atoms + left → end ≡ at + length l → at ≤ length s → drop at s ≡ l ++ after → tallyFrom fuel s at t ≡ tallyFrom left s end (summed t atoms)
-unfolding summed
-tally-over s none after fuel left at end t f e within here =
+walk-over : {X Y : Type 0} (walk : ℕ → List ℕ → ℕ → X → Y) (next : X → List ℕ → X) (Covers : X → List (List ℕ) → Type 0) → Turn walk next Covers
+    → (s : List ℕ) {l : List ℕ} {atoms : List (List ℕ)} → Atoms l atoms → (after : List ℕ) (fuel left at end : ℕ) (x : X) → fuel ≡ length atoms + left → end ≡ at + length l → at ≤ length s → drop at s ≡ l ++ after → Covers x atoms
+    → walk fuel s at x ≡ walk left s end (passed next x atoms)
+unfolding passed
+walk-over walk next Covers turn s none after fuel left at end x f e within here c =
     let a : fuel ≡ left = omega arith in
     let b : at ≡ end = omega arith in
-    ap (λ (x : ℕ). tallyFrom x s at t) a ∙ ap (λ (x : ℕ). tallyFrom left s x t) b
-tally-over s (more {atom} {rest} {atoms} w r) after fuel left at end t f e within here =
+    ap (λ (n : ℕ). walk n s at x) a ∙ ap (λ (n : ℕ). walk left s n x) b
+walk-over walk next Covers turn s (more {atom} {rest} {atoms} w r) after fuel left at end x f e within here c =
     let there : drop at s ≡ atom ++ (rest ++ after) = regroup s at atom rest after here in
     let inside = atom-within s at within atom (rest ++ after) there w in
     let one = atom-some atom w in
     let g : fuel ≡ suc (length atoms + left) = omega arith in
-    let n : end ≡ at + length atom + length rest = e ∙ ap (λ (x : ℕ). at + x) (length-append atom rest) ∙ further at (length atom) (length rest) in
-    tally-on s fuel (length atoms + left) at t g (record { 0 = at + length atom }) (record { 0 = unlimited - price atom }) (record { 0 = at + headerLength atom }) (isString (headerKind atom)) (omega arith) (atom-past s at within atom (rest ++ after) there w (record { 0 = unlimited }) (price-word atom))
-    ∙ ap (tallyFrom (length atoms + left) s (at + length atom)) (added-plus s at atom (rest ++ after) there w t)
-    ∙ tally-over s r after (length atoms + left) left (at + length atom) end (plus t atom) refl n inside (atom-next s at within atom (rest ++ after) there w)
+    let n : end ≡ at + length atom + length rest = e ∙ ap (λ (m : ℕ). at + m) (length-append atom rest) ∙ further at (length atom) (length rest) in
+    let t = turn s fuel (length atoms + left) at x atom (rest ++ after) atoms g (omega arith) within there w c in
+    t .0 ∙ walk-over walk next Covers turn s r after (length atoms + left) left (at + length atom) end (next x atom) refl n inside (atom-next s at within atom (rest ++ after) there w) (t .1)
+
+-- THE TALLY adds what each has
+unfoldable summed : Tallied → List (List ℕ) → Tallied
+summed = passed plus
+
+tally-turn : Turn tallyFrom plus (λ t atoms. Unit {0})
+tally-turn s fuel left at t atom after atoms enough going within here w c = (
+  tally-on s fuel left at t enough (record { 0 = at + length atom }) (record { 0 = unlimited - price atom }) (record { 0 = at + headerLength atom }) (isString (headerKind atom)) going (atom-past s at within atom after here w (record { 0 = unlimited }) (price-word atom))
+      ∙ ap (tallyFrom left s (at + length atom)) (added-plus s at atom after here w t),
+  tt,
+)
+
+tally-over : (s : List ℕ) {l : List ℕ} {atoms : List (List ℕ)} → Atoms l atoms → (after : List ℕ) (fuel left at end : ℕ) (t : Tallied) → fuel ≡ length atoms + left → end ≡ at + length l → at ≤ length s → drop at s ≡ l ++ after → tallyFrom fuel s at t ≡ tallyFrom left s end (summed t atoms)
+unfolding summed
+tally-over s w after fuel left at end t f e within here = walk-over tallyFrom plus (λ t atoms. Unit {0}) tally-turn s w after fuel left at end t f e within here tt
 
 -- what it adds up to
 abbrev tallied : ℕ → ℕ → ℕ → ℕ → Tallied
@@ -79,7 +101,7 @@ same-tallied {a} {a′} {b} {b′} {c} {c′} {l} {l′} p q r s =
     ap (λ (x : ℕ). tallied x b c l) p ∙ ap (λ (x : ℕ). tallied a′ x c l) q ∙ ap (λ (x : ℕ). tallied a′ b′ x l) r ∙ ap (tallied a′ b′ c′) s
 
 summed-total : (a b c l : ℕ) (atoms : List (List ℕ)) → summed (tallied a b c l) atoms ≡ tallied (a + length atoms) (b + total bodyBytes atoms) (c + total price atoms) (l + total lettersIn atoms)
-unfolding summed total
+unfolding summed passed total
 summed-total a b c l [] = same-tallied (zeroed a) (zeroed b) (zeroed c) (zeroed l)
   where
     zeroed : (n : ℕ) → n ≡ n + 0
@@ -114,37 +136,34 @@ tally-priced s atoms short w =
     ∙ tally-end s (suc (length s - length atoms)) (length s - length atoms) (length s) (summed nothing atoms) refl (omega arith)
     ∙ ap TA.Done (summed-all atoms))
 
--- THE RUN passes over whole, known atoms whose charges the budget covers
-less : (b p q : ℕ) → p + q ≤ b → q ≤ b - p
-less b p q h = omega arith
+-- THE RUN takes their charges off the budget, which covers them, and counts them
+abbrev running : ℕ → List ℕ → ℕ → ℕ × ℕ → Ran
+running fuel s at x = runFrom fuel s at (record { 0 = x .0 }) (x .1)
 
-run-over : (s : List ℕ) {l : List ℕ} {atoms : List (List ℕ)} → Atoms l atoms → (after : List ℕ) (fuel left at end budget spare n m : ℕ) → fuel ≡ length atoms + left → end ≡ at + length l → total price atoms ≤ budget → spare ≡ budget - total price atoms → m ≡ n + length atoms → at ≤ length s → drop at s ≡ l ++ after → runFrom fuel s at (record { 0 = budget }) n ≡ runFrom left s end (record { 0 = spare }) m
+abbrev spend : ℕ × ℕ → List ℕ → ℕ × ℕ
+spend x atom = (x .0 - price atom, x .1 + 1)
+
+run-turn : Turn running spend (λ x atoms. total price atoms ≤ x .0)
 unfolding total
-run-over s none after fuel left at end budget spare n m f e c d k within here =
-    let x : fuel ≡ left = omega arith in
-    let y : at ≡ end = omega arith in
-    let z : budget ≡ spare = omega arith in
-    let w : n ≡ m = omega arith in
-    ap (λ (i : ℕ). runFrom i s at (record { 0 = budget }) n) x
-    ∙ ap (λ (i : ℕ). runFrom left s i (record { 0 = budget }) n) y
-    ∙ ap (λ (i : ℕ). runFrom left s end (record { 0 = i }) n) z
-    ∙ ap (runFrom left s end (record { 0 = spare })) w
-run-over s (more {atom} {rest} {atoms} w r) after fuel left at end budget spare n m f e c d k within here =
-    let there : drop at s ≡ atom ++ (rest ++ after) = regroup s at atom rest after here in
-    let inside = atom-within s at within atom (rest ++ after) there w in
-    let one = atom-some atom w in
-    let g : fuel ≡ suc (length atoms + left) = omega arith in
-    let i : end ≡ at + length atom + length rest = e ∙ ap (λ (x : ℕ). at + x) (length-append atom rest) ∙ further at (length atom) (length rest) in
-    run-on s fuel (length atoms + left) at (record { 0 = budget }) n g (record { 0 = at + length atom }) (record { 0 = budget - price atom }) (record { 0 = at + headerLength atom }) (isString (headerKind atom)) (omega arith) (atom-past s at within atom (rest ++ after) there w (record { 0 = budget }) (first (price atom) (total price atoms) budget c))
-    ∙ run-over s r after (length atoms + left) left (at + length atom) end (budget - price atom) spare (n + 1) m refl i (less budget (price atom) (total price atoms) c) (d ∙ apart budget (price atom) (total price atoms)) (k ∙ counted n (length atoms)) inside (atom-next s at within atom (rest ++ after) there w)
+run-turn s fuel left at x atom after atoms enough going within here w c =
+    (run-on s fuel left at (record { 0 = x .0 }) (x .1) enough (record { 0 = at + length atom }) (record { 0 = x .0 - price atom }) (record { 0 = at + headerLength atom }) (isString (headerKind atom)) going (atom-past s at within atom after here w (record { 0 = x .0 }) (first (price atom) (total price atoms) (x .0) c)), rest (price atom) (total price atoms) (x .0) c)
   where
     first : (p q b : ℕ) → p + q ≤ b → p ≤ b
     first p q b h = omega arith
 
-    apart : (b p q : ℕ) → b - (p + q) ≡ b - p - q
+    rest : (p q b : ℕ) → p + q ≤ b → q ≤ b - p
+    rest p q b h = omega arith
+
+spent : (b n : ℕ) (atoms : List (List ℕ)) → passed spend (b, n) atoms ≡ (b - total price atoms, n + length atoms)
+unfolding passed total
+spent b n [] = let p : b ≡ b - 0 = omega arith in let q : n ≡ n + 0 = omega arith in ap (λ (x : ℕ). (x, n)) p ∙ ap (λ (x : ℕ). (b - 0, x)) q
+spent b n (atom ∷ atoms) =
+    spent (b - price atom) (n + 1) atoms ∙ ap (λ (x : ℕ). (x, n + 1 + length atoms)) (apart b (price atom) (total price atoms)) ∙ ap (λ (x : ℕ). (b - (price atom + total price atoms), x)) (counted n (length atoms))
+  where
+    apart : (b p q : ℕ) → b - p - q ≡ b - (p + q)
     apart b p q = omega arith
 
-    counted : (n k : ℕ) → n + suc k ≡ n + 1 + k
+    counted : (n k : ℕ) → n + 1 + k ≡ n + suc k
     counted n k = omega arith
 
 -- 2: A RUN WITH A BUDGET OF AT LEAST C reads them all, and leaves the budget less C
@@ -152,9 +171,11 @@ pub run-priced : (s : List ℕ) (atoms : List (List ℕ)) (budget : ℕ) → Ato
 run-priced s atoms budget w c =
     let most = atoms-most w in
     let e : length s ≡ 0 + length s = omega arith in
-    let k : length atoms ≡ 0 + length atoms = omega arith in
-    run-over s w [] (suc (length s)) (suc (length s - length atoms)) 0 (length s) budget (budget - total price atoms) 0 (length atoms) (fuel-left (length atoms) (length s) most) e c refl k (omega arith) (sym (append-nil s))
-    ∙ run-end s (suc (length s - length atoms)) (length s - length atoms) (length s) (record { 0 = budget - total price atoms }) (length atoms) refl (omega arith)
+    let k : 0 + length atoms ≡ length atoms = omega arith in
+    walk-over running spend (λ x atoms. total price atoms ≤ x .0) run-turn s w [] (suc (length s)) (suc (length s - length atoms)) 0 (length s) (budget, 0) (fuel-left (length atoms) (length s) most) e (omega arith) (sym (append-nil s)) c
+    ∙ ap (running (suc (length s - length atoms)) s (length s)) (spent budget 0 atoms)
+    ∙ run-end s (suc (length s - length atoms)) (length s - length atoms) (length s) (record { 0 = budget - total price atoms }) (0 + length atoms) refl (omega arith)
+    ∙ ap (RN.Done (record { 0 = length s }) (record { 0 = budget - total price atoms })) k
 
 -- 3: A RUN WITH A SMALLER BUDGET is refused with 5 at the first atom whose running sum passes it
 same-stop : {p p′ b b′ n n′ q q′ : ℕ} → p ≡ p′ → b ≡ b′ → n ≡ n′ → q ≡ q′ → RN.Stopped (record { 0 = p }) (record { 0 = b }) n R.TooManyBytesRead (record { 0 = q }) ≡ RN.Stopped (record { 0 = p′ }) (record { 0 = b′ }) n′ R.TooManyBytesRead (record { 0 = q′ })
