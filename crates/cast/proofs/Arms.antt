@@ -27,7 +27,8 @@ use Rattle.types.specs.declared.Wide.{Wide}
 use Rattle.types.specs.declared.AsWide.{AsWide}
 use Rattle.types.specs.declared.AsWide.the-variants as A
 use Rattle.types.proofs.Integer as Made
-use Rattle.cast.specs.Variants.{width, variant, inRange, joined, wideOf}
+use Rattle.types.specs.Values.{joined, wideOf}
+use Rattle.cast.specs.Variants.{width, variant, inRange}
 use Rattle.cast.specs.Casts.{cast, keptWords, asI128, asU128}
 use Rattle.cast.proofs.Words.{Held, words-joined, joined-fits, wide-back, low-half, high-half, high-negative, small-words, negative-words}
 use Rattle.cast.proofs.Ranges.{wider, wider-signed, wider-unsigned, signed-fits, fits-signed, fits-unsigned, variant-width, variant-value}

@@ -18,7 +18,8 @@ use Rattle.types.specs.declared.Integer.{Integer}
 use Rattle.types.specs.declared.Integer.the-variants as I
 use Rattle.types.specs.declared.Wide.{Wide}
 use Rattle.types.proofs.Integer as Made
-use Rattle.cast.specs.Variants.{sign, width, value, variant, inRange, joined, words, sameSign, sameValue, equalIntegers, equalOf}
+use Rattle.types.specs.Values.{value, joined, words}
+use Rattle.cast.specs.Variants.{sign, width, variant, inRange, sameSign, sameValue, equalIntegers, equalOf}
 use Rattle.cast.proofs.Words.{Held, joined-fits, words-joined, wide-back}
 use Rattle.cast.proofs.Ranges.{fits-signed, fits-unsigned, variant-sign, variant-width, variant-value}
 

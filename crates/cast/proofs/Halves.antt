@@ -14,7 +14,8 @@ use mir.ValLaws.{toZ-ofZ, toZ-pos, toZ-neg}
 use borrow.Author.Tests.{lt-ltb, le-ltb, ltb-true, leb-true, leb-false}
 use Rattle.types.specs.declared.Integer.the-variants as I
 use Rattle.types.specs.declared.Wide.{Wide}
-use Rattle.cast.specs.Variants.{variant, inRange, joined}
+use Rattle.types.specs.Values.{joined}
+use Rattle.cast.specs.Variants.{variant, inRange}
 use Rattle.cast.specs.Froms.{from}
 use Rattle.cast.proofs.Words.{Held, words-joined, wide-back, low-half, high-negative}
 use Rattle.cast.proofs.Ranges.{narrower, signed-fits}

@@ -16,7 +16,8 @@ use Rattle.types.specs.declared.Integer.the-variants as I
 use Rattle.types.specs.declared.Refusal.{Refusal}
 use Rattle.types.specs.declared.Refusal.the-variants as R
 use Rattle.types.specs.declared.AsU8.the-variants as AsU8
-use Rattle.cast.specs.Variants.{width, value, variant, inRange}
+use Rattle.types.specs.Values.{value}
+use Rattle.cast.specs.Variants.{width, variant, inRange}
 use Rattle.cast.specs.Casts.{castable, cast, asU8}
 use Rattle.cast.specs.Froms.{tried, from}
 use Rattle.cast.proofs.Ranges.{wider-unsigned, variant-width, variant-value}

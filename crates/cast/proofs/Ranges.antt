@@ -12,8 +12,9 @@ use mir.Syntax.{Sign, unsigned, signed, Width, w8, w16, w32, w64, w128}
 use mir.Val.{bits, hbits, bytes, Fits, SFits, toZ, ofZ}
 use mir.ValLaws.{toZ-ofZ, bits-suc}
 use borrow.Author.Tests.{lt-ltb, ltb-true}
-use Rattle.cast.specs.Variants.{sign, width, value, variant, inRange}
-use Rattle.cast.proofs.Words.{joined-words}
+use Rattle.types.specs.Values.{value}
+use Rattle.types.proofs.Values.{joined-words}
+use Rattle.cast.specs.Variants.{sign, width, variant, inRange}
 
 pub signed-fits : (w : Width) (z : ℤ) → inRange signed w z ≡ true → SFits w z
 signed-fits w z h = record { sfits = ltb-true (mag z) (2 ^ hbits w) h }

@@ -1,7 +1,7 @@
 -- Two words and the number that they stand for are each other's inverse. Rests on the laws of digits, at the base 2 ^ 64.
 use mathlib.Core.Path.{_≡_, refl, _∙_, sym, ap}
 use Prim.Native.Nat.{ℕ, suc, _+_, _-_, _*_, _^_, _≤_, _<_}
-use native.Mathlib.Nat.{div-add-mod', mod-eq-of-lt, div-eq-of-lt, le-trans, mul-le-mul-right, le-add-right, suc-mul}
+use native.Mathlib.Nat.{mod-eq-of-lt, div-eq-of-lt, le-trans, mul-le-mul-right, le-add-right, suc-mul}
 use native.Mathlib.Omega.{arith}
 use lib.Arith.{digits-lt, digits-div, digits-mod}
 use borrow.Author.Tests.{le-ltb}
@@ -10,11 +10,7 @@ use mir.Syntax.{w128}
 use mir.Val.{Fits, toZ}
 use mir.ValLaws.{ofZ-toZ}
 use Rattle.types.specs.declared.Wide.{Wide}
-use Rattle.cast.specs.Variants.{joined, words, wideOf}
-
--- the number of a number's words
-pub joined-words : (n : ℕ) → joined (words n) ≡ n
-joined-words n = div-add-mod' n (2 ^ 64)
+use Rattle.types.specs.Values.{joined, words, wideOf}
 
 -- both words fit: what is known of every `Wide` that the code holds
 abbrev pub Held : Wide → Type 0

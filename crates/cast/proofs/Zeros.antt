@@ -12,7 +12,8 @@ use borrow.Author.Tests.{ne-eqb}
 use Rattle.types.specs.declared.Integer.{Integer}
 use Rattle.types.specs.declared.Integer.the-variants as I
 use Rattle.types.specs.declared.Wide.{Wide}
-use Rattle.cast.specs.Variants.{isZero, joined}
+use Rattle.types.specs.Values.{joined}
+use Rattle.cast.specs.Variants.{isZero}
 use Rattle.cast.proofs.Words.{Held, joined-fits}
 
 -- the bits of a number below 0 are not 0

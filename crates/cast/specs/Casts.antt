@@ -37,7 +37,8 @@ use Rattle.types.specs.declared.AsF64.{AsF64}
 use Rattle.types.specs.declared.AsF64.the-variants as AsF64
 use Rattle.types.specs.declared.AsFloat.{AsFloat}
 use Rattle.types.specs.declared.AsFloat.the-variants as AsFloat
-use Rattle.cast.specs.Variants.{width, value, inRange, wideOf}
+use Rattle.types.specs.Values.{value, wideOf}
+use Rattle.cast.specs.Variants.{width, inRange}
 
 -- "each accepts a narrower or equal width, of either sign, if the value fits, and refuses every wider variant"
 abbrev pub castable : Sign → Width → Integer → Bool

@@ -1,26 +1,15 @@
--- An integer taken apart: the sign and the width of its variant, and its value. Document 01, "Casts". `Sign`, `Width` and
--- two's complement, `toZ` and `ofZ`, are the machine's own; `bits w` and `bytes w` are a width's size.
-use Prim.Native.Nat.{ℕ, _+_, _*_, _/_, _%_, _^_}
+-- An integer taken apart: the sign and the width of its variant; its value is `types.Values.value`. Document 01, "Casts".
+-- `Sign` and `Width` are the machine's own; `bits w` and `bytes w` are a width's size.
+use Prim.Native.Nat.{_^_}
 use mathlib.Core.Bool.{Bool, true, false, _&&_}
 use lib.Dec.{ltb, eqb}
 use lib.IntN.{ℤ, pos, negsuc, natAbs}
 use lib.Signed.{mag}
 use mir.Syntax.{Sign, unsigned, signed, Width, w8, w16, w32, w64, w128}
-use mir.Val.{bits, hbits, bytes, toZ, ofZ}
-use Rattle.types.specs.declared.Wide.{Wide}
+use mir.Val.{bits, hbits, bytes}
+use Rattle.types.specs.Values.{wideOf, value}
 use Rattle.types.specs.declared.Integer.{Integer}
 use Rattle.types.specs.declared.Integer.the-variants as I
-
--- "128-bit values become two 64-bit words": the number that the words stand for, and the words of a number
-abbrev pub joined : Wide → ℕ
-joined w = w .hi * 2 ^ 64 + w .lo
-
-abbrev pub words : ℕ → Wide
-words n = record { lo = n % 2 ^ 64; hi = n / 2 ^ 64 }
-
--- the words of a value: of a signed one, its two's complement
-abbrev pub wideOf : ℤ → Wide
-wideOf z = words (ofZ w128 z)
 
 abbrev pub sign : Integer → Sign
 sign (I.I8 v) = signed
@@ -45,18 +34,6 @@ width (I.U16 v) = w16
 width (I.U32 v) = w32
 width (I.U64 v) = w64
 width (I.U128 v) = w128
-
-abbrev pub value : Integer → ℤ
-value (I.I8 v) = v
-value (I.I16 v) = v
-value (I.I32 v) = v
-value (I.I64 v) = v
-value (I.I128 v) = toZ w128 (joined v)
-value (I.U8 v) = pos v
-value (I.U16 v) = pos v
-value (I.U32 v) = pos v
-value (I.U64 v) = pos v
-value (I.U128 v) = pos (joined v)
 
 -- the variant of a sign and a width that holds a value
 abbrev pub variant : Sign → Width → ℤ → Integer

@@ -5,8 +5,8 @@ ghost use mathlib.Core.Bool.{_&&_};
 ghost use lib.Dec.{eqb};
 ghost use lib.IntN.{pos};
 ghost use mir.Syntax.{signed, unsigned, w8, w16, w32, w64, w128};
-ghost use mir.Val.{toZ};
-ghost use Rattle.cast.specs.Variants.{isZero, equalOf, equalIntegers, joined, wideOf};
+ghost use Rattle.types.specs.Values.{joined, joinedSigned, wideOf};
+ghost use Rattle.cast.specs.Variants.{isZero, equalOf, equalIntegers};
 ghost use Rattle.cast.specs.Froms.{from};
 ghost use Rattle.cast.specs.Casts.{asI8, asI16, asI32, asI64, asI128, asU8, asU16, asU32, asU64, asU128};
 ghost use Rattle.cast.specs.Casts.{keptWords, asF32, asF64, asFloat};
@@ -580,7 +580,7 @@ pub fn from_i64(value: i64) -> Integer
 
 // The words of a value that fits an i64 are its own and its sign's.
 pub fn from_i128(value: Wide) -> Integer
-    ensures { λ r. ⌜ r ≡ from signed w128 (toZ w128 (joined value)) ⌝ }
+    ensures { λ r. ⌜ r ≡ from signed w128 (joinedSigned value) ⌝ }
 {
     if value.hi == 0 {
         if value.lo <= 0x7FFF_FFFF_FFFF_FFFF {

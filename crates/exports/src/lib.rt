@@ -17,9 +17,9 @@ ghost use Rattle.header.specs.Signature.{versionRead, signatureBytes};
 ghost use Rattle.little.specs.Counts.{holdsS, holdsU};
 ghost use Rattle.binary.specs.Formats.{single, double};
 ghost use Rattle.binary.specs.Conversions.{widened, narrowed};
-ghost use Rattle.integer.specs.Integers.{wideBits};
+ghost use Rattle.types.specs.Values.{joined, joinedSigned};
 ghost use Rattle.cast.specs.Casts.{asF32, asF64};
-ghost use Rattle.writers.specs.Bytes.{specialBytes, truth, signedBytes, unsignedBytes, wideSigned, valueBytes, bytesBytes, heldAnswer, heldContent};
+ghost use Rattle.writers.specs.Bytes.{specialBytes, truth, signedBytes, unsignedBytes, valueBytes, bytesBytes, heldAnswer, heldContent};
 ghost use Rattle.float.specs.Bytes.{f32Bytes, f64Bytes};
 ghost use Rattle.float_cast.specs.Integral.{asInteger};
 ghost use Rattle.atom.specs.Atoms.{atomRead, atomScratch};
@@ -384,9 +384,9 @@ pub extern "C" fn pot_write_u64(out: &mut [u8], value: u64, words: &mut [u64]) -
 // Writes an Int of at most 128 bits, whose value is two words in two's complement.
 #[no_mangle]
 pub extern "C" fn pot_write_i128(out: &mut [u8], low: u64, high: u64, words: &mut [u64]) -> u64
-    ensures { λ r. ⌜ r ≡ numberOf (saidWritten (writtenAnswer (signedBytes (wideSigned (record { lo = low; hi = high }))) (now (out .entry)))) (now (words .entry)) ⌝ }
-    ensures { λ r. ⌜ now (words .exit) ≡ wordsOf (saidWritten (writtenAnswer (signedBytes (wideSigned (record { lo = low; hi = high }))) (now (out .entry)))) (now (words .entry)) ⌝ }
-    ensures { λ r. ⌜ now (out .exit) ≡ unlessShort (now (words .entry)) (now (out .entry)) (writtenContent (signedBytes (wideSigned (record { lo = low; hi = high }))) (now (out .entry))) ⌝ }
+    ensures { λ r. ⌜ r ≡ numberOf (saidWritten (writtenAnswer (signedBytes (joinedSigned (record { lo = low; hi = high }))) (now (out .entry)))) (now (words .entry)) ⌝ }
+    ensures { λ r. ⌜ now (words .exit) ≡ wordsOf (saidWritten (writtenAnswer (signedBytes (joinedSigned (record { lo = low; hi = high }))) (now (out .entry)))) (now (words .entry)) ⌝ }
+    ensures { λ r. ⌜ now (out .exit) ≡ unlessShort (now (words .entry)) (now (out .entry)) (writtenContent (signedBytes (joinedSigned (record { lo = low; hi = high }))) (now (out .entry))) ⌝ }
 {
     if words.len() < 8 {
         return 9;
@@ -398,9 +398,9 @@ pub extern "C" fn pot_write_i128(out: &mut [u8], low: u64, high: u64, words: &mu
 // Writes a UInt of at most 128 bits, whose value is two words.
 #[no_mangle]
 pub extern "C" fn pot_write_u128(out: &mut [u8], low: u64, high: u64, words: &mut [u64]) -> u64
-    ensures { λ r. ⌜ r ≡ numberOf (saidWritten (writtenAnswer (unsignedBytes (wideBits (record { lo = low; hi = high }))) (now (out .entry)))) (now (words .entry)) ⌝ }
-    ensures { λ r. ⌜ now (words .exit) ≡ wordsOf (saidWritten (writtenAnswer (unsignedBytes (wideBits (record { lo = low; hi = high }))) (now (out .entry)))) (now (words .entry)) ⌝ }
-    ensures { λ r. ⌜ now (out .exit) ≡ unlessShort (now (words .entry)) (now (out .entry)) (writtenContent (unsignedBytes (wideBits (record { lo = low; hi = high }))) (now (out .entry))) ⌝ }
+    ensures { λ r. ⌜ r ≡ numberOf (saidWritten (writtenAnswer (unsignedBytes (joined (record { lo = low; hi = high }))) (now (out .entry)))) (now (words .entry)) ⌝ }
+    ensures { λ r. ⌜ now (words .exit) ≡ wordsOf (saidWritten (writtenAnswer (unsignedBytes (joined (record { lo = low; hi = high }))) (now (out .entry)))) (now (words .entry)) ⌝ }
+    ensures { λ r. ⌜ now (out .exit) ≡ unlessShort (now (words .entry)) (now (out .entry)) (writtenContent (unsignedBytes (joined (record { lo = low; hi = high }))) (now (out .entry))) ⌝ }
 {
     if words.len() < 8 {
         return 9;

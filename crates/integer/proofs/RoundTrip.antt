@@ -5,41 +5,41 @@ use mathlib.Core.Bool.{true}
 use mathlib.Core.List.{List, _++_}
 use Prim.Native.Nat.{ℕ, _+_, _^_, _<_}
 use native.Mathlib.Omega.{arith}
-use native.Mathlib.Nat.{mod-eq-of-lt, mod-add-div}
+use native.Mathlib.Nat.{mod-eq-of-lt}
 use lib.IntN.{ℤ, pos}
 use lib.ListN.{length, length-append}
+use mir.Syntax.{w128}
+use mir.Val.{toZ}
+use Rattle.types.specs.Values.{value}
 use Rattle.types.specs.declared.Way.{Way}
 use Rattle.types.specs.declared.Kind.{Kind}
 use Rattle.types.specs.declared.IntegerAnswer.the-variants as IA
+use Rattle.types.proofs.Values.{joined-words}
 use Rattle.little.specs.Le.{toLE, numberAt}
 use Rattle.little.specs.Twos.{twos, twosBits}
 use Rattle.little.specs.Counts.{counts, holdsS}
 use Rattle.little.proofs.Width.{to-length}
 use Rattle.little.proofs.At.{number-reads}
-use Rattle.little.proofs.Two.{twos-bits}
-use Rattle.integer.specs.Integers.{allowedCount, wideOf, wideBits, intOf, uintOf, integerOf, integerValue, integerBody}
+use Rattle.little.proofs.Two.{twos-bits, machine-twos}
+use Rattle.integer.specs.Integers.{allowedCount, intOf, uintOf, integerOf, integerBody}
 use Rattle.integer.proofs.Variants.{int-1, int-2, int-3, int-4, int-6, int-8, int-16, uint-1, uint-2, uint-3, uint-4, uint-6, uint-8, uint-16}
 use Rattle.integer.proofs.Counts.{each}
 use Rattle.integer.proofs.Answers.{body-whole}
 
--- two words hold the number
-pub wide-back : (v : ℕ) → wideBits (wideOf v) ≡ v
-wide-back v = mod-add-div v (2 ^ 64)
-
 -- the value of what is read: two's complement, and the number itself
-pub int-value : (n : ℕ) → allowedCount n ≡ true → (v : ℕ) → integerValue (intOf n v) ≡ twos n v
+pub int-value : (n : ℕ) → allowedCount n ≡ true → (v : ℕ) → value (intOf n v) ≡ twos n v
 int-value n h v =
     each
-    (λ m. integerValue (intOf m v) ≡ twos m v)
+    (λ m. value (intOf m v) ≡ twos m v)
     counts (
-      ap integerValue (int-1 v),
+      ap value (int-1 v),
       (
-        ap integerValue (int-2 v),
+        ap value (int-2 v),
         (
-          ap integerValue (int-3 v),
+          ap value (int-3 v),
           (
-            ap integerValue (int-4 v),
-            (ap integerValue (int-6 v), (ap integerValue (int-8 v), (ap integerValue (int-16 v) ∙ ap (twos 16) (wide-back v), tt))),
+            ap value (int-4 v),
+            (ap value (int-6 v), (ap value (int-8 v), (ap value (int-16 v) ∙ ap (toZ w128) (joined-words v) ∙ machine-twos v, tt))),
           ),
         ),
       ),
@@ -47,19 +47,19 @@ int-value n h v =
     n
     h
 
-pub uint-value : (n : ℕ) → allowedCount n ≡ true → (v : ℕ) → integerValue (uintOf n v) ≡ pos v
+pub uint-value : (n : ℕ) → allowedCount n ≡ true → (v : ℕ) → value (uintOf n v) ≡ pos v
 uint-value n h v =
     each
-    (λ m. integerValue (uintOf m v) ≡ pos v)
+    (λ m. value (uintOf m v) ≡ pos v)
     counts (
-      ap integerValue (uint-1 v),
+      ap value (uint-1 v),
       (
-        ap integerValue (uint-2 v),
+        ap value (uint-2 v),
         (
-          ap integerValue (uint-3 v),
+          ap value (uint-3 v),
           (
-            ap integerValue (uint-4 v),
-            (ap integerValue (uint-6 v), (ap integerValue (uint-8 v), (ap integerValue (uint-16 v) ∙ ap pos (wide-back v), tt))),
+            ap value (uint-4 v),
+            (ap value (uint-6 v), (ap value (uint-8 v), (ap value (uint-16 v) ∙ ap pos (joined-words v), tt))),
           ),
         ),
       ),
@@ -68,7 +68,7 @@ uint-value n h v =
     h
 
 -- a held value comes back
-pub int-value-back : (n : ℕ) (z : ℤ) → allowedCount n ≡ true → holdsS n z ≡ true → integerValue (intOf n (twosBits n z)) ≡ z
+pub int-value-back : (n : ℕ) (z : ℤ) → allowedCount n ≡ true → holdsS n z ≡ true → value (intOf n (twosBits n z)) ≡ z
 int-value-back n z h held = int-value n h (twosBits n z) ∙ twos-bits n z held
 
 -- the bytes of a number that they hold

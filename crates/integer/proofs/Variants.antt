@@ -15,6 +15,7 @@ use denote.Enum.Declared.{tagOf}
 use borrow.Author.Tests.{ne-eqb, eqb-true}
 use Rattle.types.specs.Choice.{pick}
 use Rattle.types.specs.Kinds.{kindCode}
+use Rattle.types.specs.Values.{words}
 use Rattle.types.specs.declared.Kind.{Kind}
 use Rattle.types.specs.declared.Kind.the-variants as K
 use Rattle.types.proofs.Kind.{the-type}
@@ -25,7 +26,7 @@ use Rattle.little.specs.Le.{numberAt}
 use Rattle.little.specs.Twos.{twos}
 use Rattle.little.specs.Counts.{listed}
 use Rattle.little.proofs.At.{number-add}
-use Rattle.integer.specs.Integers.{allowedCount, wideOf, intOf, uintOf, integerKind}
+use Rattle.integer.specs.Integers.{allowedCount, intOf, uintOf, integerKind}
 
 -- a variant of n bytes
 abbrev pub SignedAt : ℕ → (ℤ → Integer) → Type 0
@@ -58,7 +59,7 @@ pub int-8 : SignedAt 8 I.I64
 unfolding intOf
 int-8 v = refl
 
-pub int-16 : (v : ℕ) → intOf 16 v ≡ I.I128 (wideOf v)
+pub int-16 : (v : ℕ) → intOf 16 v ≡ I.I128 (words v)
 unfolding intOf
 int-16 v = refl
 
@@ -86,7 +87,7 @@ pub uint-8 : UnsignedAt 8 I.U64
 unfolding uintOf
 uint-8 v = refl
 
-pub uint-16 : (v : ℕ) → uintOf 16 v ≡ I.U128 (wideOf v)
+pub uint-16 : (v : ℕ) → uintOf 16 v ≡ I.U128 (words v)
 unfolding uintOf
 uint-16 v = refl
 
@@ -100,7 +101,7 @@ module _ (s : List ℕ) (at count n : ℕ) (e : count ≡ n) where
   unsigned-arm make is v f = ap make f ∙ sym (is (numberAt n s at)) ∙ ap (λ (m : ℕ). uintOf m (numberAt m s at)) (sym e)
 
 -- the arm of two words
-module _ (s : List ℕ) (at count : ℕ) (w : Wide) (f : w ≡ wideOf (numberAt 16 s at)) (e : count ≡ 16) where
+module _ (s : List ℕ) (at count : ℕ) (w : Wide) (f : w ≡ words (numberAt 16 s at)) (e : count ≡ 16) where
   pub signed-wide-arm : I.I128 w ≡ intOf count (numberAt count s at)
   signed-wide-arm = ap I.I128 f ∙ sym (int-16 (numberAt 16 s at)) ∙ ap (λ (m : ℕ). intOf m (numberAt m s at)) (sym e)
 
@@ -108,8 +109,8 @@ module _ (s : List ℕ) (at count : ℕ) (w : Wide) (f : w ≡ wideOf (numberAt 
   unsigned-wide-arm = ap I.U128 f ∙ sym (uint-16 (numberAt 16 s at)) ∙ ap (λ (m : ℕ). uintOf m (numberAt m s at)) (sym e)
 
 -- two words of 8 bytes each
-pub words : (s : List ℕ) (at low high : ℕ) → low ≡ numberAt 8 s at → high ≡ numberAt 8 s (at + 8) → low < 256 ^ 8 → _≡_ {A = Wide} record { lo = low; hi = high } (wideOf (numberAt 16 s at))
-words s at low high e f h =
+pub two-words : (s : List ℕ) (at low high : ℕ) → low ≡ numberAt 8 s at → high ≡ numberAt 8 s (at + 8) → low < 256 ^ 8 → _≡_ {A = Wide} record { lo = low; hi = high } (words (numberAt 16 s at))
+two-words s at low high e f h =
     let whole : numberAt 16 s at ≡ numberAt 8 s at + 256 ^ 8 * numberAt 8 s (at + 8) = number-add 8 8 s at in
     let l : low ≡ numberAt 16 s at % 2 ^ 64 = omega arith in
     let u : high ≡ numberAt 16 s at / 2 ^ 64 = omega arith in

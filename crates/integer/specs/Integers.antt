@@ -1,19 +1,18 @@
 -- Integers read from bytes. Document 01, "Bytes of an atom": "Int and UInt: byte count is argument + 1; counts 1, 2, 3, 4, 6,
 -- 8, 16; little endian, Int in two's complement", and "Refusals by number".
-use Prim.Native.Nat.{ℕ, _+_, _*_, _/_, _%_, _^_}
+use Prim.Native.Nat.{ℕ, _+_}
 use mathlib.Core.Bool.{Bool, true}
 use mathlib.Core.List.{List}
 use lib.Dec.{eqb, leb}
-use lib.IntN.{ℤ, pos}
 use lib.ListN.{length}
 use Rattle.types.specs.Choice.{pick}
 use Rattle.types.specs.Counters.{placeIn}
 use Rattle.types.specs.Kinds.{kindCode}
 use Rattle.types.specs.Ways.{upTo}
+use Rattle.types.specs.Values.{words}
 use Rattle.types.specs.declared.Way.{Way}
 use Rattle.types.specs.declared.Kind.{Kind}
 use Rattle.types.specs.declared.Kind.the-variants as K
-use Rattle.types.specs.declared.Wide.{Wide}
 use Rattle.types.specs.declared.Integer.{Integer}
 use Rattle.types.specs.declared.Integer.the-variants as I
 use Rattle.types.specs.declared.Refusal.the-variants as R
@@ -27,20 +26,13 @@ use Rattle.little.specs.Counts.{counts, listed}
 abbrev pub allowedCount : ℕ → Bool
 allowedCount count = listed count counts
 
--- "128-bit values become two 64-bit words": the words of a number, and the number of two words
-abbrev pub wideOf : ℕ → Wide
-wideOf v = record { lo = v % 2 ^ 64; hi = v / 2 ^ 64 }
-
-abbrev pub wideBits : Wide → ℕ
-wideBits w = w .lo + 2 ^ 64 * w .hi
-
 -- "Read results are I8, I16, I32 (3 and 4 bytes), I64 (6 and 8), I128": of that many bytes that hold v, an allowed count
 unfoldable pub intOf : ℕ → ℕ → Integer
 intOf count v =
     pick (eqb count 1) (I.I8 (twos count v))
     (pick (eqb count 2) (I.I16 (twos count v))
     (pick (leb count 4) (I.I32 (twos count v))
-    (pick (leb count 8) (I.I64 (twos count v)) (I.I128 (wideOf v)))))
+    (pick (leb count 8) (I.I64 (twos count v)) (I.I128 (words v)))))
 
 -- "and the same for U"
 unfoldable pub uintOf : ℕ → ℕ → Integer
@@ -48,7 +40,7 @@ uintOf count v =
     pick (eqb count 1) (I.U8 v)
     (pick (eqb count 2) (I.U16 v)
     (pick (leb count 4) (I.U32 v)
-    (pick (leb count 8) (I.U64 v) (I.U128 (wideOf v)))))
+    (pick (leb count 8) (I.U64 v) (I.U128 (words v)))))
 
 -- whether a kind is Int or UInt
 abbrev pub integerKind : Kind → Bool
@@ -57,19 +49,6 @@ integerKind kind = pick (eqb (kindCode kind) 1) true (eqb (kindCode kind) 2)
 -- the integer of an atom of kind Int, else UInt
 abbrev pub integerOf : Kind → ℕ → ℕ → Integer
 integerOf kind count v = pick (eqb (kindCode kind) 1) (intOf count v) (uintOf count v)
-
--- the number that an integer carries
-abbrev pub integerValue : Integer → ℤ
-integerValue (I.I8 z) = z
-integerValue (I.I16 z) = z
-integerValue (I.I32 z) = z
-integerValue (I.I64 z) = z
-integerValue (I.I128 w) = twos 16 (wideBits w)
-integerValue (I.U8 n) = pos n
-integerValue (I.U16 n) = pos n
-integerValue (I.U32 n) = pos n
-integerValue (I.U64 n) = pos n
-integerValue (I.U128 w) = pos (wideBits w)
 
 -- the bytes of a number of allowed kind and count, read at a place within the source; "4 Eof: end of slice"
 unfoldable pub integerBody : Way → List ℕ → ℕ → Kind → ℕ → IntegerAnswer

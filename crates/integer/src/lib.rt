@@ -5,7 +5,8 @@ ghost use mathlib.Core.Bool.{true};
 ghost use Prim.Native.Nat.{_+_, _≤_, _<_, _^_};
 ghost use lib.ListN.{length};
 ghost use Rattle.little.specs.Le.{numberAt};
-ghost use Rattle.integer.specs.Integers.{allowedCount, wideOf, intOf, uintOf, integerKind, integerOf, integerRead};
+ghost use Rattle.types.specs.Values.{words};
+ghost use Rattle.integer.specs.Integers.{allowedCount, intOf, uintOf, integerKind, integerOf, integerRead};
 use types::Integer;
 use types::IntegerAnswer;
 use types::Kind;
@@ -33,7 +34,7 @@ pub fn allowed(count: u64) -> bool
 // The two words of 16 bytes, whose room the caller judged.
 fn wide_at(source: &[u8], at: usize) -> Wide
     requires { ⌜ at + 16 ≤ length (now source) ⌝ }
-    ensures { λ r. ⌜ r ≡ wideOf (numberAt 16 (now (source .entry)) at) ⌝ }
+    ensures { λ r. ⌜ r ≡ words (numberAt 16 (now (source .entry)) at) ⌝ }
 {
     Wide {
         lo: little::le8(source, at),
@@ -76,7 +77,7 @@ fn uint_at(source: &[u8], at: usize, count: u64) -> Integer
 // The two words of 16 bytes, those past the end zero.
 fn filled_wide(source: &[u8], at: usize) -> Wide
     requires { ⌜ at ≤ length (now source) ⌝ }
-    ensures { λ r. ⌜ r ≡ wideOf (numberAt 16 (now (source .entry)) at) ⌝ }
+    ensures { λ r. ⌜ r ≡ words (numberAt 16 (now (source .entry)) at) ⌝ }
 {
     Wide {
         lo: little::filled(source, at, 8),

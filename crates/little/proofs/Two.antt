@@ -9,10 +9,11 @@ use lib.Dec.{T, ltb, leb, lit<}
 use lib.IntN.{ℤ, pos, negsuc, natAbs}
 use lib.Pow.{pow-add}
 use lib.Signed.{leZ, nonNeg, mag}
-use mir.Syntax.{Width}
-use mir.Val.{Fits, SFits, toZ, ofZ, bits, hbits}
+use mir.Syntax.{Width, w128}
+use mir.Val.{Fits, SFits, toZ, ofZ, sel, bits, hbits}
 use mir.ValLaws.{toZ-pos, toZ-neg, toZ-ofZ, half-full}
 use borrow.Author.Tests.{lt-ltb, le-ltb, ltb-true, ltb-false, leb-false}
+use Rattle.types.specs.Choice.{pick}
 use Rattle.little.specs.Le.{toLE}
 use Rattle.little.specs.Twos.{twos, twosBits}
 use Rattle.little.specs.Counts.{holdsU, holdsS}
@@ -124,6 +125,15 @@ less-one a b = omega arith
 pub high-half : (w : Width) (n v : ℕ) → 256 ^ n / 2 ≤ v → 256 ^ n - 1 - v < 2 ^ hbits w → toZ w (2 ^ bits w - 1 - (256 ^ n - 1 - v)) ≡ twos n v
 high-half w n v h k =
     ap (toZ w) (less-one (2 ^ bits w) (256 ^ n - 1 - v)) ∙ toZ-neg w (256 ^ n - 1 - v) k ∙ sym (twos-high n v h)
+
+-- the machine's own two's complement of 128 bits is that of 16 bytes
+chosen : (t : Bool) (m n : ℕ) → sel t (pos n) (negsuc (m - suc n)) ≡ pick t (pos n) (negsuc (m - 1 - n))
+chosen true m n = refl
+chosen false m n = ap negsuc (sym (less-one m n))
+
+pub machine-twos : (n : ℕ) → toZ w128 n ≡ twos 16 n
+unfolding twos
+machine-twos n = chosen (ltb n (256 ^ 16 / 2)) (256 ^ 16) n
 
 -- writing from a machine's width: the test `0 <= v`, the casts, the bits
 pos-passes : (n : ℕ) → leb 0 n ≡ false → ⊥

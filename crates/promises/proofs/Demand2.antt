@@ -2,7 +2,7 @@
 -- written bytes, with anything before and after them, read as that value at the place just past them, under every way, lent
 -- or copied, from any budget of at least the price, leaving the budget less the price. Strings and specials rest on
 -- `atom.Back.bytes-back` and `atom.Back.special-back`.
-use mathlib.Core.Path.{_≡_, refl, _∙_, sym, ap, subst}
+use mathlib.Core.Path.{_≡_, refl, _∙_, sym, ap}
 use mathlib.Core.Bool.{true, false, false≢true}
 use mathlib.Core.List.{List, [], _++_, append-assoc, append-nil}
 use Prim.Native.Nat.{ℕ, _+_, _-_, _/_, _≤_, _<_, _^_}
@@ -27,12 +27,12 @@ use Rattle.reader.specs.Strings.{stringMark, stringScratch, scratchNeeded}
 use Rattle.reader.specs.Parts.{markedBytes}
 use Rattle.reader.proofs.Delivered.{string-back}
 use Rattle.little.specs.Le.{toLE}
-use Rattle.little.specs.Twos.{twos, twosBits}
+use Rattle.little.specs.Twos.{twosBits}
 use Rattle.little.specs.Counts.{holdsS, holdsU, shortestS, shortestU}
 use Rattle.little.proofs.Width.{to-length}
 use Rattle.little.proofs.Two.{bits-lt}
 use Rattle.little.proofs.Shortest.{shortestS-holds, shortestS-listed, shortestU-holds, shortestU-listed}
-use Rattle.integer.specs.Integers.{wideBits, allowedCount, integerKind, integerOf, intOf, uintOf, integerValue, integerBody}
+use Rattle.integer.specs.Integers.{allowedCount, integerKind, integerOf, intOf, uintOf, integerBody}
 use Rattle.types.specs.declared.IntegerAnswer.the-variants as IA
 use Rattle.types.specs.Counters.{placeIn}
 use borrow.Author.Tests.{ltb-true, lt-ltb}
@@ -57,10 +57,10 @@ use Rattle.types.specs.declared.Special.the-variants as S
 use Rattle.types.specs.declared.Integer.{Integer}
 use Rattle.types.specs.declared.Integer.the-variants as I
 use Rattle.types.specs.declared.Float.the-variants as F
-use Rattle.cast.specs.Variants.{sign, width, value, inRange}
+use Rattle.types.specs.Values.{joined, joinedSigned, value}
+use Rattle.cast.specs.Variants.{sign, width, inRange}
 use Rattle.promises.specs.Rows.{Number, int, uint, float}
 use Rattle.promises.specs.Values.{Value, number, natural, integer, f32-bits, f64-bits, f32, f64, special, string, header, HeaderOnly, sequence, map, symbol, kindOf, written, roomFor, Carries, number-carried, natural-carried, integer-carried, f32-bits-carried, f64-bits-carried, f32-carried, f64-carried, special-carried, string-carried, header-carried, ReadBack}
-use Rattle.promises.proofs.SameValue.{same-value, same-words}
 
 -- a count of 1 to 16 is its argument plus 1
 counted : (n : ℕ) → 0 < n → n ≤ 16 → n ≡ countOf (n - 1)
@@ -100,7 +100,7 @@ integer-back way kind n bits before after budget scratch k a l b =
     ∙ ap (λ (p : ℕ). A.Read (record { 0 = p }) left (atomOf kind (n - 1) (N.Integer (integerOf kind n bits)))) end
 
 -- A SIGNED VALUE reads back: as the variant of its count, which carries the value
-pub signed-back : (way : Way) (z : ℤ) (before after : List ℕ) (budget : Budget) (scratch : List ℕ) → holdsS 16 z ≡ true → numberCharge (shortestS z) ≤ budget .0 → (atomRead way (before ++ (signedBytes z ++ after)) (length before) budget scratch ≡ A.Read (record { 0 = length before + length (signedBytes z) }) (record { 0 = budget .0 - numberCharge (shortestS z) }) (atomOf K.Int (shortestS z - 1) (N.Integer (intOf (shortestS z) (twosBits (shortestS z) z))))) × (integerValue (intOf (shortestS z) (twosBits (shortestS z) z)) ≡ z)
+pub signed-back : (way : Way) (z : ℤ) (before after : List ℕ) (budget : Budget) (scratch : List ℕ) → holdsS 16 z ≡ true → numberCharge (shortestS z) ≤ budget .0 → (atomRead way (before ++ (signedBytes z ++ after)) (length before) budget scratch ≡ A.Read (record { 0 = length before + length (signedBytes z) }) (record { 0 = budget .0 - numberCharge (shortestS z) }) (atomOf K.Int (shortestS z - 1) (N.Integer (intOf (shortestS z) (twosBits (shortestS z) z))))) × (value (intOf (shortestS z) (twosBits (shortestS z) z)) ≡ z)
 unfolding signedBytes
 signed-back way z before after budget scratch h b =
     let n : ℕ = shortestS z in
@@ -113,7 +113,7 @@ unfolding holdsU
 held-lt n k h = ltb-true k (256 ^ n) h
 
 -- AN UNSIGNED VALUE likewise
-pub unsigned-back : (way : Way) (k : ℕ) (before after : List ℕ) (budget : Budget) (scratch : List ℕ) → k < 256 ^ 16 → numberCharge (shortestU k) ≤ budget .0 → (atomRead way (before ++ (unsignedBytes k ++ after)) (length before) budget scratch ≡ A.Read (record { 0 = length before + length (unsignedBytes k) }) (record { 0 = budget .0 - numberCharge (shortestU k) }) (atomOf K.UInt (shortestU k - 1) (N.Integer (uintOf (shortestU k) k)))) × (integerValue (uintOf (shortestU k) k) ≡ pos k)
+pub unsigned-back : (way : Way) (k : ℕ) (before after : List ℕ) (budget : Budget) (scratch : List ℕ) → k < 256 ^ 16 → numberCharge (shortestU k) ≤ budget .0 → (atomRead way (before ++ (unsignedBytes k ++ after)) (length before) budget scratch ≡ A.Read (record { 0 = length before + length (unsignedBytes k) }) (record { 0 = budget .0 - numberCharge (shortestU k) }) (atomOf K.UInt (shortestU k - 1) (N.Integer (uintOf (shortestU k) k)))) × (value (uintOf (shortestU k) k) ≡ pos k)
 unfolding unsignedBytes
 unsigned-back way k before after budget scratch h b =
     let n : ℕ = shortestU k in
@@ -233,14 +233,14 @@ module _ (way : Way) (before after : List ℕ) (budget : Budget) (scratch : List
   paid-for bytes charge e h = omega arith
 
   -- an integer by its number
-  signed-as : (x : Integer) (h : inRange (sign x) (width x) (value x) ≡ true) (z : ℤ) → valueBytes x ≡ signedBytes z → kindOf (sign x) ≡ K.Int → integerValue x ≡ z → holdsS 16 z ≡ true → price (valueBytes x) ≤ budget .0 → ReadBack way before after budget scratch (integer x h)
+  signed-as : (x : Integer) (h : inRange (sign x) (width x) (value x) ≡ true) (z : ℤ) → valueBytes x ≡ signedBytes z → kindOf (sign x) ≡ K.Int → value x ≡ z → holdsS 16 z ≡ true → price (valueBytes x) ≤ budget .0 → ReadBack way before after budget scratch (integer x h)
   signed-as x h z e k v held b =
       let p : price (valueBytes x) ≡ numberCharge (shortestS z) = ap price e ∙ signed-price z held in
       let w = signed-back way z before after budget scratch held (paid-for (valueBytes x) (numberCharge (shortestS z)) p b) in
       back-as (integer x h) (numberCharge (shortestS z)) (atomOf (kindOf (sign x)) (shortestS z - 1) (N.Integer (intOf (shortestS z) (twosBits (shortestS z) z)))) p
       (rw (e, k) (w .0)) (integer-carried (w .1 ∙ sym v))
 
-  unsigned-as : (x : Integer) (h : inRange (sign x) (width x) (value x) ≡ true) (n : ℕ) → valueBytes x ≡ unsignedBytes n → kindOf (sign x) ≡ K.UInt → integerValue x ≡ pos n → n < 256 ^ 16 → price (valueBytes x) ≤ budget .0 → ReadBack way before after budget scratch (integer x h)
+  unsigned-as : (x : Integer) (h : inRange (sign x) (width x) (value x) ≡ true) (n : ℕ) → valueBytes x ≡ unsignedBytes n → kindOf (sign x) ≡ K.UInt → value x ≡ pos n → n < 256 ^ 16 → price (valueBytes x) ≤ budget .0 → ReadBack way before after budget scratch (integer x h)
   unsigned-as x h n e k v held b =
       let p : price (valueBytes x) ≡ numberCharge (shortestU n) = ap price e ∙ unsigned-price n held in
       let w = unsigned-back way n before after budget scratch held (paid-for (valueBytes x) (numberCharge (shortestU n)) p b) in
@@ -253,12 +253,12 @@ module _ (way : Way) (before after : List ℕ) (budget : Budget) (scratch : List
   integer-any (I.I16 z) h b = signed-as (I.I16 z) h z refl refl refl (held-by (2 ^ 15) z (le-of-lt (lit< tt)) h) b
   integer-any (I.I32 z) h b = signed-as (I.I32 z) h z refl refl refl (held-by (2 ^ 31) z (le-of-lt (lit< tt)) h) b
   integer-any (I.I64 z) h b = signed-as (I.I64 z) h z refl refl refl (held-by (2 ^ 63) z (le-of-lt (lit< tt)) h) b
-  integer-any (I.I128 w) h b = signed-as (I.I128 w) h (twos 16 (wideBits w)) refl refl refl (held-by (2 ^ 127) (twos 16 (wideBits w)) (le-refl (2 ^ 127)) (subst (λ (z : ℤ). ltb (mag z) (2 ^ 127) ≡ true) (same-value (I.I128 w)) h)) b
+  integer-any (I.I128 w) h b = signed-as (I.I128 w) h (joinedSigned w) refl refl refl (held-by (2 ^ 127) (joinedSigned w) (le-refl (2 ^ 127)) h) b
   integer-any (I.U8 k) h b = unsigned-as (I.U8 k) h k refl refl refl (natural-by (2 ^ 8) k (le-of-lt (lit< tt)) h) b
   integer-any (I.U16 k) h b = unsigned-as (I.U16 k) h k refl refl refl (natural-by (2 ^ 16) k (le-of-lt (lit< tt)) h) b
   integer-any (I.U32 k) h b = unsigned-as (I.U32 k) h k refl refl refl (natural-by (2 ^ 32) k (le-of-lt (lit< tt)) h) b
   integer-any (I.U64 k) h b = unsigned-as (I.U64 k) h k refl refl refl (natural-by (2 ^ 64) k (le-of-lt (lit< tt)) h) b
-  integer-any (I.U128 w) h b = unsigned-as (I.U128 w) h (wideBits w) refl refl refl (natural-by (2 ^ 128) (wideBits w) (le-refl (2 ^ 128)) (subst (λ (n : ℕ). ltb n (2 ^ 128) ≡ true) (same-words w) h)) b
+  integer-any (I.U128 w) h b = unsigned-as (I.U128 w) h (joined w) refl refl refl (natural-by (2 ^ 128) (joined w) (le-refl (2 ^ 128)) h) b
 
   -- what a float writer stored
   stored-read : (v : Value) (own bits : ℕ) (S : Stored own bits (written v)) → price (written v) ≤ budget .0 → Carries (before ++ (written v ++ after)) (atomScratch way (before ++ (written v ++ after)) (length before) budget scratch) (atomOf K.Float (S .count - 1) (N.Float (floatOf (S .count) (S .stored)) (S .stored))) v → ReadBack way before after budget scratch v

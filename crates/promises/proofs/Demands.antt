@@ -38,7 +38,8 @@ use Rattle.binary.specs.Floats.{floatMeaning, plain, layoutOf}
 use Rattle.binary.proofs.Values.{ofBits-means}
 use Rattle.binary.proofs.Widths.{half-single, single-double}
 use Rattle.binary.proofs.Laws.{widened-keeps, narrowed-sound, narrowed-complete}
-use Rattle.cast.specs.Variants.{width, value, inRange}
+use Rattle.types.specs.Values.{value}
+use Rattle.cast.specs.Variants.{width, inRange}
 use Rattle.cast.specs.Casts.{cast, castable}
 use Rattle.cast.specs.Casts as Casts
 use Rattle.float.specs.Values.{asF32}

@@ -18,7 +18,7 @@ use Rattle.binary.specs.Conversions.{Narrowed, exact, lost, narrowedMeaning, na
 use Rattle.binary.specs.Floats.{floatMeaning, plain}
 use Rattle.binary.proofs.Values.{toBits-means}
 use Rattle.binary.proofs.Laws.{narrowed-sound, narrowed-complete}
-use Rattle.cast.specs.Variants.{value}
+use Rattle.types.specs.Values.{value}
 use Rattle.cast.specs.Casts as Casts
 use Rattle.float.specs.Values as Values
 

@@ -21,7 +21,6 @@ pub mod Exports
 pub mod Laid
 pub mod Exactly
 pub mod Filled
-pub mod SameValue
 pub mod Demand1
 pub mod Entries
 pub mod Stops

@@ -51,7 +51,8 @@ use Rattle.types.specs.declared.AsInteger.{AsInteger}
 use Rattle.types.specs.declared.AsInteger.the-variants as In
 use Rattle.report.specs.declared.Report.{Report}
 use Rattle.report.specs.declared.Report.the-variants as RP
-use Rattle.cast.specs.Variants.{sign, width, value}
+use Rattle.types.specs.Values.{value}
+use Rattle.cast.specs.Variants.{sign, width}
 use Rattle.binary.specs.declared.Narrowed16.{Narrowed16}
 use Rattle.binary.specs.declared.Narrowed16.the-variants as N16
 use Rattle.binary.specs.declared.Narrowed32.{Narrowed32}

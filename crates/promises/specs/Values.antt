@@ -26,8 +26,8 @@ use Rattle.header.specs.Header.{headerBytes}
 use Rattle.reader.specs.Strings.{scratchNeeded}
 use Rattle.reader.specs.Parts.{markedBytes}
 use Rattle.little.specs.Counts.{holdsS}
-use Rattle.integer.specs.Integers.{integerValue}
-use Rattle.cast.specs.Variants.{sign, width, value, inRange}
+use Rattle.types.specs.Values.{value}
+use Rattle.cast.specs.Variants.{sign, width, inRange}
 use Rattle.writers.specs.Bytes as Writers
 use Rattle.binary.specs.Formats.{Layout, single, double, meaning, nan}
 use Rattle.binary.specs.Floats.{plain}
@@ -96,9 +96,9 @@ pub record Means (layout : Layout) (bits : ℕ) (x : Float) (stored : ℕ) : Typ
 -- An atom of the kind that was written carries the value: an integer its number; a float the meaning of the pattern, or the value;
 -- a string's mark names its bytes, in the source or in the scratch; a special and a header are the atom itself.
 pub data Carries (source scratch : List ℕ) : Atom → Value → Type 0 where
-  number-carried : {arg : ℕ} {n : Integer} {z : ℤ} {h : holdsS 16 z ≡ true} → integerValue n ≡ z → Carries source scratch (atomOf K.Int arg (N.Integer n)) (number z h)
-  natural-carried : {arg : ℕ} {n : Integer} {k : ℕ} {h : k < 256 ^ 16} → integerValue n ≡ pos k → Carries source scratch (atomOf K.UInt arg (N.Integer n)) (natural k h)
-  integer-carried : {arg : ℕ} {n x : Integer} {h : inRange (sign x) (width x) (value x) ≡ true} → integerValue n ≡ integerValue x → Carries source scratch (atomOf (kindOf (sign x)) arg (N.Integer n)) (integer x h)
+  number-carried : {arg : ℕ} {n : Integer} {z : ℤ} {h : holdsS 16 z ≡ true} → value n ≡ z → Carries source scratch (atomOf K.Int arg (N.Integer n)) (number z h)
+  natural-carried : {arg : ℕ} {n : Integer} {k : ℕ} {h : k < 256 ^ 16} → value n ≡ pos k → Carries source scratch (atomOf K.UInt arg (N.Integer n)) (natural k h)
+  integer-carried : {arg : ℕ} {n x : Integer} {h : inRange (sign x) (width x) (value x) ≡ true} → value n ≡ value x → Carries source scratch (atomOf (kindOf (sign x)) arg (N.Integer n)) (integer x h)
   f32-bits-carried : {arg : ℕ} {x : Float} {stored bits : ℕ} {h : bits < 256 ^ 4} → Means single bits x stored → Carries source scratch (atomOf K.Float arg (N.Float x stored)) (f32-bits bits h)
   f64-bits-carried : {arg : ℕ} {x : Float} {stored bits : ℕ} {h : bits < 256 ^ 8} → Means double bits x stored → Carries source scratch (atomOf K.Float arg (N.Float x stored)) (f64-bits bits h)
   f32-carried : {arg : ℕ} {y : Float} {stored : ℕ} {x : Ieee.Float} {h : T (Ieee.fits Ieee.binary32 x)} → floatValue y ≡ x → Carries source scratch (atomOf K.Float arg (N.Float y stored)) (f32 x h)

@@ -28,7 +28,7 @@ use Rattle.types.specs.declared.AsU32.{AsU32}
 use Rattle.types.specs.declared.AsU32.the-variants as AsU32
 use Rattle.types.specs.declared.AsU64.{AsU64}
 use Rattle.types.specs.declared.AsU64.the-variants as AsU64
-use Rattle.cast.specs.Variants.{value}
+use Rattle.types.specs.Values.{value}
 use Rattle.cast.specs.Casts.{cast, castable}
 
 over : {X Y : Type 0} (h : X → Y) (b : Bool) (x y : X) → h (pick b x y) ≡ pick b (h x) (h y)

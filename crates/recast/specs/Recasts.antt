@@ -4,7 +4,6 @@ use Prim.Native.Nat.{ℕ}
 use lib.Dec.{ltb, eqb}
 use lib.IntN.{ℤ, pos}
 use mir.Syntax.{Sign, unsigned, signed, Width, w8, w16, w32, w64, w128}
-use mir.Val.{toZ}
 use Rattle.types.specs.Choice.{pick}
 use Rattle.types.specs.declared.Wide.{Wide}
 use Rattle.types.specs.declared.Integer.{Integer}
@@ -12,7 +11,8 @@ use Rattle.types.specs.declared.Refusal.{Refusal}
 use Rattle.types.specs.declared.Refusal.the-variants as R
 use Rattle.types.specs.declared.AsInteger.{AsInteger}
 use Rattle.types.specs.declared.AsInteger.the-variants as In
-use Rattle.cast.specs.Variants.{variant, joined}
+use Rattle.types.specs.Values.{joined, joinedSigned}
+use Rattle.cast.specs.Variants.{variant}
 use Rattle.cast.specs.Casts.{cast}
 use Rattle.cast.specs.Froms.{from}
 
@@ -37,7 +37,7 @@ recast n x =
 
 -- what `From` makes of two words: of a signed variant they are two's complement
 abbrev pub fromWords : ℕ → Wide → Integer
-fromWords n w = pick (ltb n 5) (from signed w128 (toZ w128 (joined w))) (from unsigned w128 (pos (joined w)))
+fromWords n w = pick (ltb n 5) (from signed w128 (joinedSigned w)) (from unsigned w128 (pos (joined w)))
 
 -- the integer of a variant, given by its number and its value's words
 unfoldable pub integerFrom : ℕ → Wide → AsInteger

@@ -3,3 +3,4 @@ pub mod Kinds
 pub mod Ways
 pub mod Counters
 pub mod Refusals
+pub mod Values

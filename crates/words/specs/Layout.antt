@@ -33,7 +33,7 @@ use Rattle.types.specs.declared.Written.{Written}
 use Rattle.types.specs.declared.Written.the-variants as W
 use Rattle.words.specs.declared.IntegerWords.{IntegerWords}
 use Rattle.words.specs.declared.NucleusWords.{NucleusWords}
-use Rattle.cast.specs.Variants.{value, wideOf}
+use Rattle.types.specs.Values.{value, wideOf}
 use Rattle.types.specs.declared.AsInteger.{AsInteger}
 use Rattle.types.specs.declared.AsInteger.the-variants as In
 use Rattle.types.specs.declared.AsF32.{AsF32}

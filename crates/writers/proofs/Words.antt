@@ -4,16 +4,19 @@ use mathlib.Core.Bool.{Bool, true, false}
 use mathlib.Core.List.{List, _∷_, _++_}
 use Prim.Native.Nat.{ℕ, suc, _+_, _*_, _/_, _^_, _<_, _≤_, _-_}
 use native.Mathlib.Omega.{arith}
-use native.Mathlib.Nat.{add-zero, mul-zero, mul-suc, mul-le-mul-left}
+use native.Mathlib.Nat.{mul-suc, mul-le-mul-left}
 use lib.Dec.{ltb, leb, lit<, lit≤}
 use lib.IntN.{ℤ}
 use lib.Pow.{pow-add}
 use borrow.Author.Tests.{ltb-true, ltb-false, leb-true, leb-false}
+use Rattle.types.specs.Values.{joined, joinedSigned}
+use Rattle.types.specs.declared.Wide.{Wide}
+use Rattle.types.proofs.Values.{low-first}
 use Rattle.little.specs.Le.{fromLE, toLE}
 use Rattle.little.specs.Twos.{twos, twosBits}
 use Rattle.little.specs.Counts.{holdsS}
 use Rattle.little.proofs.Width.{to-words, to-low, from-to-fits}
-use Rattle.little.proofs.Two.{twos-held, twos-bits, bits-twos, bits-lt, low-bytes, held-mag, not-held-mag}
+use Rattle.little.proofs.Two.{twos-held, twos-bits, bits-twos, bits-lt, low-bytes, held-mag, not-held-mag, machine-twos}
 use Rattle.little.proofs.Words.{near-zero, near-ones, far-zero, far-ones}
 use Rattle.writers.specs.Bytes.{signedBytes, unsignedBytes}
 use Rattle.writers.proofs.Levels.{signed-level, unsigned-level, after-8}
@@ -26,8 +29,12 @@ wide-lt n d low high l h =
     omega arith
 
 -- the low word is the value where the high one is 0
-pub only-low : (base low high : ℕ) → high ≡ 0 → low ≡ low + base * high
-only-low base low high e = rw (e, mul-zero base, add-zero low) refl
+pub only-low : (w : Wide) → w .hi ≡ 0 → w .lo ≡ joined w
+only-low w e = omega arith
+
+-- the signed value over the byte count
+pub signed-low-first : (w : Wide) → joinedSigned w ≡ twos 16 (w .lo + 256 ^ 8 * w .hi)
+signed-low-first w = machine-twos (joined w) ∙ ap (twos 16) (low-first w)
 
 module _ (n d low high : ℕ) (0<n : 0 < n) (0<d : 0 < d) (fits : low < 256 ^ n) where
   -- nothing above the low word: it holds the value if its sign bit is clear

@@ -6,11 +6,11 @@ use lib.IntN.{ℤ}
 use lib.ListN.{length}
 use Rattle.types.specs.Choice.{pick}
 use Rattle.types.specs.Kinds.{specialCode}
+use Rattle.types.specs.Values.{joined, joinedSigned}
 use Rattle.types.specs.declared.Kind.{Kind}
 use Rattle.types.specs.declared.Kind.the-variants as K
 use Rattle.types.specs.declared.Special.{Special}
 use Rattle.types.specs.declared.Special.the-variants as S
-use Rattle.types.specs.declared.Wide.{Wide}
 use Rattle.types.specs.declared.Integer.{Integer}
 use Rattle.types.specs.declared.Integer.the-variants as I
 use Rattle.types.specs.declared.Refusal.the-variants as R
@@ -19,9 +19,8 @@ use Rattle.types.specs.declared.Written.the-variants as W
 use Rattle.lent.specs.Lent.{writtenAnswer, writtenContent}
 use Rattle.header.specs.Header.{headerBytes}
 use Rattle.little.specs.Le.{toLE}
-use Rattle.little.specs.Twos.{twos, twosBits}
+use Rattle.little.specs.Twos.{twosBits}
 use Rattle.little.specs.Counts.{shortestU, shortestS}
-use Rattle.integer.specs.Integers.{wideBits}
 
 -- a number of that many bytes: "byte count is argument + 1", "little endian"
 unfoldable pub integerBytes : Kind → ℕ → ℕ → List ℕ
@@ -34,22 +33,18 @@ signedBytes z = integerBytes K.Int (shortestS z) (twosBits (shortestS z) z)
 unfoldable pub unsignedBytes : ℕ → List ℕ
 unsignedBytes k = integerBytes K.UInt (shortestU k) k
 
--- of two words, signed
-abbrev pub wideSigned : Wide → ℤ
-wideSigned w = twos 16 (wideBits w)
-
 -- an integer's value, in the kind of its variant
 unfoldable pub valueBytes : Integer → List ℕ
 valueBytes (I.I8 z) = signedBytes z
 valueBytes (I.I16 z) = signedBytes z
 valueBytes (I.I32 z) = signedBytes z
 valueBytes (I.I64 z) = signedBytes z
-valueBytes (I.I128 w) = signedBytes (wideSigned w)
+valueBytes (I.I128 w) = signedBytes (joinedSigned w)
 valueBytes (I.U8 k) = unsignedBytes k
 valueBytes (I.U16 k) = unsignedBytes k
 valueBytes (I.U32 k) = unsignedBytes k
 valueBytes (I.U64 k) = unsignedBytes k
-valueBytes (I.U128 w) = unsignedBytes (wideBits w)
+valueBytes (I.U128 w) = unsignedBytes (joined w)
 
 -- a special: its header only
 abbrev pub specialBytes : Special → List ℕ

@@ -9,9 +9,9 @@ ghost use lib.Signed.{mag};
 ghost use Rattle.types.specs.declared.Special.the-variants.{None, Unit, Named};
 ghost use Rattle.lent.specs.Lent.{writtenAnswer, writtenContent};
 ghost use Rattle.little.specs.Counts.{holdsU, holdsS};
-ghost use Rattle.integer.specs.Integers.{wideBits};
+ghost use Rattle.types.specs.Values.{joined, joinedSigned};
 ghost use Rattle.writers.specs.Copies.{Copied};
-ghost use Rattle.writers.specs.Bytes.{signedBytes, unsignedBytes, wideSigned, valueBytes, specialBytes, truth, bytesBytes, heldAnswer, heldContent};
+ghost use Rattle.writers.specs.Bytes.{signedBytes, unsignedBytes, valueBytes, specialBytes, truth, bytesBytes, heldAnswer, heldContent};
 use types::Integer;
 use types::Kind;
 use types::Refusal;
@@ -145,7 +145,7 @@ pub fn write_i64(out: &mut [u8], value: i64) -> Written
 
 // Whether the low word alone holds a signed value: above it stands nothing but its sign.
 fn low_word_holds(value: Wide) -> bool
-    ensures { λ r. ⌜ r ≡ holdsS 8 (wideSigned value) ⌝ }
+    ensures { λ r. ⌜ r ≡ holdsS 8 (joinedSigned value) ⌝ }
 {
     let lo = value.lo;
     let hi = value.hi;
@@ -160,8 +160,8 @@ fn low_word_holds(value: Wide) -> bool
 
 // Writes an Int of at most 16 bytes, whose value is two words.
 pub fn write_i128(out: &mut [u8], value: Wide) -> Written
-    ensures { λ r. ⌜ r ≡ writtenAnswer (signedBytes (wideSigned value)) (now (out .entry)) ⌝ }
-    ensures { λ r. ⌜ now (out .exit) ≡ writtenContent (signedBytes (wideSigned value)) (now (out .entry)) ⌝ }
+    ensures { λ r. ⌜ r ≡ writtenAnswer (signedBytes (joinedSigned value)) (now (out .entry)) ⌝ }
+    ensures { λ r. ⌜ now (out .exit) ≡ writtenContent (signedBytes (joinedSigned value)) (now (out .entry)) ⌝ }
 {
     let lo = value.lo;
     if low_word_holds(value) {
@@ -241,8 +241,8 @@ pub fn write_u64(out: &mut [u8], value: u64) -> Written
 
 // Writes a UInt of at most 16 bytes, whose value is two words.
 pub fn write_u128(out: &mut [u8], value: Wide) -> Written
-    ensures { λ r. ⌜ r ≡ writtenAnswer (unsignedBytes (wideBits value)) (now (out .entry)) ⌝ }
-    ensures { λ r. ⌜ now (out .exit) ≡ writtenContent (unsignedBytes (wideBits value)) (now (out .entry)) ⌝ }
+    ensures { λ r. ⌜ r ≡ writtenAnswer (unsignedBytes (joined value)) (now (out .entry)) ⌝ }
+    ensures { λ r. ⌜ now (out .exit) ≡ writtenContent (unsignedBytes (joined value)) (now (out .entry)) ⌝ }
 {
     let lo = value.lo;
     let hi = value.hi;

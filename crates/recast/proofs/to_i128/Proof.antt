@@ -3,7 +3,7 @@ use mathlib.Core.Path.{_∙_, sym, ap}
 use mir.Syntax.{signed, w128}
 use Rattle.types.specs.declared.AsWide.the-variants as AsWide
 use Rattle.recast.proofs.Mapped.{mapped, of-i128}
-use Rattle.cast.specs.Variants.{wideOf}
+use Rattle.types.specs.Values.{wideOf}
 use borrow.Author.Needs.{needs}
 use Rattle.recast.proofs.to_i128.Statement.{statement}
 use Rattle.recast.proofs.to_i128.Tie as tie

@@ -3,7 +3,7 @@ use mathlib.Core.Path.{_∙_, sym, ap}
 use mir.Syntax.{unsigned, w128}
 use Rattle.types.specs.declared.AsWide.the-variants as AsWide
 use Rattle.recast.proofs.Mapped.{mapped, of-u128}
-use Rattle.cast.specs.Variants.{wideOf}
+use Rattle.types.specs.Values.{wideOf}
 use borrow.Author.Needs.{needs}
 use Rattle.recast.proofs.to_u128.Statement.{statement}
 use Rattle.recast.proofs.to_u128.Tie as tie

@@ -2,7 +2,7 @@
 use mathlib.Core.Path.{_≡_, _∙_, sym, ap}
 use mir.Syntax.{w8, w16, w32, w64}
 use mir.ValLaws.{toZ-ofZ}
-use Rattle.cast.specs.Variants.{wideOf}
+use Rattle.types.specs.Values.{wideOf}
 use Rattle.cast.proofs.Arms.{through, through-is}
 use Rattle.cast.proofs.Words.{wide-back, words-joined}
 use Rattle.words.specs.Layout.{integerWords}

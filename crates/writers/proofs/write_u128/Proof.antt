@@ -1,13 +1,13 @@
 -- `writers::write_u128` meets its contract: the smaller writer of the low word, or both words.
-use mathlib.Core.Path.{_≡_, ap}
+use mathlib.Core.Path.{_≡_, _∙_, sym, ap}
 use mathlib.Core.List.{_∷_, _++_}
 use native.Mathlib.Omega.{arith}
 use denote.Ref.{now}
 use Rattle.little.specs.Le.{toLE}
-use Rattle.integer.specs.Integers.{wideBits}
+use Rattle.types.specs.Values.{joined}
+use Rattle.types.proofs.Values.{low-first}
 use Rattle.writers.specs.Bytes.{unsignedBytes}
 use Rattle.writers.proofs.Wrote.{wrote}
-use Prim.Native.Nat.{_^_}
 use Rattle.writers.proofs.Words.{unsigned-words, only-low}
 use borrow.Author.Needs.{needs}
 use Rattle.writers.proofs.write_u128.Statement.{statement}
@@ -23,8 +23,8 @@ returns : tie.Need-returns
 returns c =
     let a = c .before .before .before .before .before .before .args in
     let v = a .value in
-    let e : v .lo ≡ wideBits v = only-low (2 ^ 64) (v .lo) (v .hi) (c .before .before .before .before .if1 .taken) in
-    wrote (c .before .before .write-u64 .result) (c .before .before .write-u64 .last .0) (now (a .out)) (unsignedBytes (wideBits v)) (unsignedBytes (v .lo)) (ap unsignedBytes e) (c .before .before .write-u64 .ensures)
+    let e : v .lo ≡ joined v = only-low v (c .before .before .before .before .if1 .taken) in
+    wrote (c .before .before .write-u64 .result) (c .before .before .write-u64 .last .0) (now (a .out)) (unsignedBytes (joined v)) (unsignedBytes (v .lo)) (ap unsignedBytes e) (c .before .before .write-u64 .ensures)
 
 put16-requires : tie.Need-put16-requires
 put16-requires c κs = search needs
@@ -36,7 +36,7 @@ returns-2 : tie.Need-returns-2
 returns-2 c =
     let a = c .before .before .before .before .before .before .args in
     let v = a .value in
-    wrote (c .before .before .put16 .result) (c .before .before .put16 .last .0) (now (a .out)) (unsignedBytes (wideBits v)) (79 ∷ (toLE 8 (v .lo) ++ toLE 8 (v .hi))) (unsigned-words (v .lo) (v .hi) (omega arith) (omega arith) (omega arith)) (c .before .before .put16 .ensures)
+    wrote (c .before .before .put16 .result) (c .before .before .put16 .last .0) (now (a .out)) (unsignedBytes (joined v)) (79 ∷ (toLE 8 (v .lo) ++ toLE 8 (v .hi))) (unsigned-words (v .lo) (v .hi) (omega arith) (omega arith) (omega arith) ∙ ap unsignedBytes (sym (low-first v))) (c .before .before .put16 .ensures)
 
 pub write-u128-spec : {M : Type 1} → statement M
 write-u128-spec =
