@@ -1,6 +1,6 @@
 -- What was written reads back: the header decides, and what follows it is the body's own round trip.
 use mathlib.Core.Path.{_≡_, _∙_, sym, ap}
-use mathlib.Core.List.{List, [], _++_, append-assoc}
+use mathlib.Core.List.{List, _++_, append-assoc}
 use Prim.Native.Nat.{ℕ, _+_, _-_, _≤_, _<_, _^_}
 use native.Mathlib.Omega.{arith}
 use lib.ListN.{length, length-append}

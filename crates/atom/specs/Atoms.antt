@@ -3,7 +3,6 @@
 use Prim.Native.Nat.{ℕ}
 use mathlib.Core.Bool.{true, false}
 use mathlib.Core.List.{List}
-use lib.ListN.{length}
 use Rattle.types.specs.Kinds.{specialFrom}
 use Rattle.types.specs.declared.Way.{Way}
 use Rattle.types.specs.declared.Kind.{Kind}

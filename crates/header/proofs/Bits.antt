@@ -6,7 +6,7 @@ use native.Mathlib.Omega.{arith}
 use native.Mathlib.Nat.{pow-suc, min-eq-left, min-eq-right}
 use lib.Dec.{eqb, leb}
 use lib.Bits.{bitAnd, and-step, and-zero-r}
-use borrow.Author.Tests.{eq-eqb, ne-eqb, le-leb, lt-leb, leb-true, leb-false, eqb-true, eqb-false}
+use borrow.Author.Tests.{eq-eqb, ne-eqb, leb-true, leb-false, eqb-true, eqb-false}
 use Rattle.header.specs.Signature.{everyBit}
 
 no-digit : (A B x y : ℕ) → x < 2 → y < 2 → (A ≡ B → ⊥) → A * 2 + x ≡ B * 2 + y → ⊥

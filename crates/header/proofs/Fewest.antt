@@ -1,17 +1,17 @@
 -- The writer uses the fewest bytes that any header with that kind and argument has; no header takes more than ten, and no
 -- argument more than 64 bits.
-use mathlib.Core.Path.{_≡_, refl, _∙_, sym, ap, subst}
+use mathlib.Core.Path.{_≡_, refl}
 use mathlib.Core.Bool.{Bool, true, false}
 use mathlib.Core.List.{List, [], _∷_}
 use Prim.Native.Nat.{ℕ, zero, suc, _+_, _*_, _/_, _%_, _^_, _≤_, _<_}
-use native.Mathlib.Nat.{pow-suc, mod-le, mod-lt, le-trans, pow-succ'}
+use native.Mathlib.Nat.{pow-suc, mod-le, mod-lt}
 use native.Mathlib.Omega.{arith}
-use lib.Dec.{ltb, eqb, lit<}
+use lib.Dec.{ltb, lit<}
 use lib.ListN.{length}
-use borrow.Author.Tests.{ltb-true, ltb-false, eqb-true, eqb-false, lt-ltb, le-ltb}
+use borrow.Author.Tests.{ltb-true, ltb-false}
 use Rattle.types.specs.declared.Kind.{Kind}
-use Rattle.header.specs.Header.{laterCount, laterValue, laterBytes, headerBytes, headerKind, headerArgument, headerLength, firstByte, afterFirst, moreFollow, argumentFrom}
-use Rattle.header.proofs.Later.{count-more, count-last, value-more, value-last, count-end, value-end}
+use Rattle.header.specs.Header.{laterCount, laterValue, laterBytes, headerBytes, headerArgument, headerLength, firstByte, afterFirst, moreFollow, argumentFrom}
+use Rattle.header.proofs.Later.{count-more, count-last, value-more, value-last}
 use Rattle.header.proofs.Groups.{last-group, group}
 use Rattle.header.proofs.Answers.{bytes-one, bytes-more}
 

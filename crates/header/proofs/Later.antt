@@ -1,10 +1,9 @@
 -- The later bytes of a header, read: what a turn of the loop keeps, and what the loop has at each of its ends.
 use mathlib.Core.Path.{_≡_, refl, _∙_, sym, ap}
-use mathlib.Core.Bool.{Bool, true, false}
 use mathlib.Core.List.{List, [], _∷_}
-use Prim.Native.Nat.{ℕ, zero, suc, _+_, _-_, _*_, _/_, _%_, _^_, _≤_, _<_}
+use Prim.Native.Nat.{ℕ, suc, _+_, _-_, _*_, _%_, _^_, _≤_, _<_}
 use native.Mathlib.Numerals.{add-one}
-use native.Mathlib.Nat.{pow-suc, mod-eq-of-lt, add-mod-mod, mod-add-mod, mul-assoc, mul-comm, mod-le, mul-mod-left, mul-div-cancel, mul-add, mod-lt, mul-le-mul-right, add-assoc}
+use native.Mathlib.Nat.{mod-eq-of-lt, add-mod-mod, mul-assoc, mul-comm, mod-le, mul-mod-left, mul-div-cancel, mul-add, mod-lt, mul-le-mul-right, add-assoc}
 use native.Mathlib.Omega.{arith}
 use lib.Dec.{lit<}
 use lib.Pow.{pow-add, pow-pos}

@@ -1,13 +1,12 @@
 -- Filled reading is reading the source with zeros after it: they change neither the kind, nor the argument, nor the bytes
 -- that a header takes.
-use mathlib.Core.Path.{_≡_, refl, _∙_, sym, ap}
-use mathlib.Core.Bool.{Bool, true, false}
+use mathlib.Core.Path.{_≡_, refl, ap}
 use mathlib.Core.List.{List, [], _∷_, _++_}
 use Prim.Native.Nat.{ℕ, zero, suc}
 use lib.Dec.{ltb}
 use lib.ListN.{replicate}
 use Rattle.types.specs.Choice.{pick}
-use Rattle.header.specs.Header.{laterCount, laterValue, headerKind, headerArgument, headerLength, firstByte, afterFirst}
+use Rattle.header.specs.Header.{laterCount, laterValue, headerKind, headerArgument, headerLength}
 
 pub count-zeros : (k : ℕ) (l : List ℕ) (n : ℕ) → laterCount k (l ++ replicate n 0) ≡ laterCount k l
 unfolding laterCount

@@ -7,7 +7,7 @@ ghost use lib.ListN.{length, drop, getD};
 ghost use Rattle.types.specs.declared.Kind.{Kind};
 ghost use Rattle.types.specs.Kinds.{kindFrom, kindKnown};
 ghost use Rattle.lent.specs.Lent.{writtenAnswer, writtenContent};
-ghost use Rattle.header.specs.Header.{headerRead, headerFrom, headerBytes, laterBytes, laterFrom};
+ghost use Rattle.header.specs.Header.{headerRead, headerBytes, laterBytes, laterFrom};
 ghost use Rattle.header.specs.Signature.{versionRead, judged, signatureBytes};
 use types::HeaderAnswer;
 use types::Kind;

@@ -2,7 +2,7 @@
 // `requires` are helpers of the readers here and of the atom's, which judge the count and the room first.
 ghost use mathlib.Core.Path.{_≡_};
 ghost use mathlib.Core.Bool.{true};
-ghost use Prim.Native.Nat.{_+_, _≤_, _<_, _^_};
+ghost use Prim.Native.Nat.{_+_, _≤_, _<_};
 ghost use lib.ListN.{length};
 ghost use Rattle.little.specs.Le.{numberAt};
 ghost use Rattle.types.specs.Values.{words};

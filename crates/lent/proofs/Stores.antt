@@ -1,6 +1,6 @@
 -- The laws of a lent buffer that every writer cites: what is written is in front, and the rest is as it was.
 use mathlib.Core.Path.{_≡_, _∙_, ap}
-use mathlib.Core.List.{List, [], _++_, append-assoc, append-nil}
+use mathlib.Core.List.{List, _++_, append-assoc, append-nil}
 use Prim.Native.Nat.{ℕ, suc, _+_, _-_, _≤_, _<_}
 use native.Mathlib.Numerals.{add-one}
 use native.Mathlib.Omega.{arith}

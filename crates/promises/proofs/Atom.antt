@@ -11,7 +11,7 @@ use Rattle.atom.proofs.update_budget as update-budget
 use Rattle.atom.proofs.update_budget.Reads as update-budget-reads
 use Rattle.promises.proofs.One.{One}
 use denote.Ref.{now}
-use mathlib.Core.Path.{_≡_, _∙_, sym, refl}
+use mathlib.Core.Path.{_∙_, sym, refl}
 
 pub count-of-one : One count-of.ended count-of-reads.Post (λ κs s. tt {0})
 count-of-one κs a r₁ r₂ s₁ s₂ p q = (p .0 ∙ sym (q .0), refl)

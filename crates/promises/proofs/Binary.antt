@@ -16,7 +16,7 @@ use Rattle.binary.proofs.f64_pattern.Reads as f64-pattern-reads
 use Rattle.binary.proofs.f64_to_f32_bits as f64-to-f32-bits
 use Rattle.binary.proofs.f64_to_f32_bits.Reads as f64-to-f32-bits-reads
 use Rattle.promises.proofs.One.{One}
-use mathlib.Core.Path.{_≡_, _∙_, sym, refl}
+use mathlib.Core.Path.{_∙_, sym, refl}
 
 pub f16-to-f32-bits-one : One f16-to-f32-bits.ended f16-to-f32-bits-reads.Post (λ κs s. tt {0})
 f16-to-f32-bits-one κs a r₁ r₂ s₁ s₂ p q = (p ∙ sym q, refl)

@@ -54,7 +54,7 @@ use Rattle.cast.proofs.wide_of_i64.Reads as wide-of-i64-reads
 use Rattle.cast.proofs.wide_of_u64 as wide-of-u64
 use Rattle.cast.proofs.wide_of_u64.Reads as wide-of-u64-reads
 use Rattle.promises.proofs.One.{One}
-use mathlib.Core.Path.{_≡_, _∙_, sym, refl}
+use mathlib.Core.Path.{_∙_, sym, refl}
 
 pub is-zero-one : One is-zero.ended is-zero-reads.Post (λ κs s. tt {0})
 is-zero-one κs a r₁ r₂ s₁ s₂ p q = (p ∙ sym q, refl)

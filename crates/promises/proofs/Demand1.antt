@@ -24,7 +24,6 @@ use Rattle.types.specs.declared.Place.{Place}
 use Rattle.types.specs.declared.Budget.{Budget}
 use Rattle.types.specs.declared.Refusal.the-variants as R
 use Rattle.types.specs.declared.KindAnswer.the-variants as KA
-use Rattle.types.specs.declared.SpecialAnswer.the-variants as SA
 use Rattle.types.specs.declared.BudgetAnswer.{BudgetAnswer}
 use Rattle.types.specs.declared.BudgetAnswer.the-variants as BA
 use Rattle.types.specs.declared.HeaderAnswer.{HeaderAnswer}

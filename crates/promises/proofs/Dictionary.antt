@@ -8,7 +8,7 @@ use Rattle.dictionary.proofs.skip_atom.Reads as skip-atom-reads
 use Rattle.dictionary.proofs.tally as tally
 use Rattle.dictionary.proofs.tally.Reads as tally-reads
 use Rattle.promises.proofs.One.{One}
-use mathlib.Core.Path.{_≡_, _∙_, sym, refl}
+use mathlib.Core.Path.{_∙_, sym, refl}
 
 pub skip-atom-one : One skip-atom.ended skip-atom-reads.Post (λ κs s. tt {0})
 skip-atom-one κs a r₁ r₂ s₁ s₂ p q = (p ∙ sym q, refl)

@@ -83,7 +83,7 @@ use Rattle.promises.proofs.One.{One}
 use denote.Ref.{now}
 use Prim.Native.Nat.{ℕ}
 use mathlib.Core.List.{List}
-use mathlib.Core.Path.{_≡_, _∙_, sym}
+use mathlib.Core.Path.{_∙_, sym}
 
 pub pot-read-atom-one : One pot-read-atom.ended pot-read-atom-reads.Post (λ κs s. now (s .1 .1 .1 .0))
 pot-read-atom-one κs a r₁ r₂ s₁ s₂ p q = (p .0 ∙ sym (q .0), p .1 ∙ sym (q .1))

@@ -29,7 +29,7 @@ use Rattle.float.proofs.write_to as write-to
 use Rattle.float.proofs.write_to.Reads as write-to-reads
 use Rattle.promises.proofs.One.{One}
 use denote.Ref.{now}
-use mathlib.Core.Path.{_≡_, _∙_, sym, refl}
+use mathlib.Core.Path.{_∙_, sym, refl}
 
 pub allowed-one : One allowed.ended allowed-reads.Post (λ κs s. tt {0})
 allowed-one κs a r₁ r₂ s₁ s₂ p q = (p ∙ sym q, refl)

@@ -11,7 +11,7 @@ use Rattle.header.proofs.write_header as write-header
 use Rattle.header.proofs.write_header.Reads as write-header-reads
 use Rattle.promises.proofs.One.{One}
 use denote.Ref.{now}
-use mathlib.Core.Path.{_≡_, _∙_, sym, refl}
+use mathlib.Core.Path.{_∙_, sym, refl}
 use Rattle.types.specs.declared.Kind.the-variants as K
 
 pub header-length-one : One header-length.ended header-length-reads.Post (λ κs s. tt {0})

@@ -7,7 +7,7 @@ use Rattle.lent.proofs.put_one as put-one
 use Rattle.lent.proofs.put_one.Reads as put-one-reads
 use Rattle.promises.proofs.One.{One}
 use denote.Ref.{now}
-use mathlib.Core.Path.{_≡_, _∙_, sym, refl}
+use mathlib.Core.Path.{_∙_, sym, refl}
 
 pub put-one-one : One put-one.ended put-one-reads.Post (λ κs s. now (s .0))
 put-one-one κs a r₁ r₂ s₁ s₂ p q = (p .0 ∙ sym (q .0), p .1 ∙ sym (q .1))

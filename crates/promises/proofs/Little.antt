@@ -51,7 +51,7 @@ use Rattle.little.proofs.put8 as put8
 use Rattle.little.proofs.put8.Reads as put8-reads
 use Rattle.promises.proofs.One.{One}
 use denote.Ref.{now}
-use mathlib.Core.Path.{_≡_, _∙_, sym, refl}
+use mathlib.Core.Path.{_∙_, sym, refl}
 
 pub byte64-one : One byte64.ended byte64-reads.Post (λ κs s. tt {0})
 byte64-one κs a r₁ r₂ s₁ s₂ p q = (p .0 ∙ sym (q .0), refl)

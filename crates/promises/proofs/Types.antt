@@ -18,7 +18,7 @@ use Rattle.types.proofs.Way.is_exact as way-is-exact
 use Rattle.types.proofs.Way.is_exact.Reads as way-is-exact-reads
 use Rattle.types.proofs.Way.unnamed as way-unnamed
 use Rattle.types.proofs.Way.unnamed.Reads as way-unnamed-reads
-use mathlib.Core.Path.{_≡_, _∙_, sym, refl}
+use mathlib.Core.Path.{_∙_, sym, refl}
 
 pub kind-from-u8-one : One kind-from-u8.ended kind-from-u8-reads.Post (λ κs s. tt {0})
 kind-from-u8-one κs a r₁ r₂ s₁ s₂ p q = (p ∙ sym q, refl)

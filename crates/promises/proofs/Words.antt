@@ -31,7 +31,7 @@ use Rattle.words.proofs.say_written as say-written
 use Rattle.words.proofs.say_written.Reads as say-written-reads
 use Rattle.promises.proofs.One.{One}
 use denote.Ref.{now}
-use mathlib.Core.Path.{_≡_, _∙_, sym}
+use mathlib.Core.Path.{_∙_, sym}
 
 pub say-one : One say.ended say-reads.Post (λ κs s. now (s .0))
 say-one κs a r₁ r₂ s₁ s₂ p q = (p .0 ∙ sym (q .0), p .1 ∙ sym (q .1))

@@ -43,7 +43,7 @@ use Rattle.writers.proofs.write_u8.Reads as write-u8-reads
 use Rattle.writers.proofs.write_unit as write-unit
 use Rattle.writers.proofs.write_unit.Reads as write-unit-reads
 use denote.Ref.{now}
-use mathlib.Core.Path.{_≡_, _∙_, sym, refl}
+use mathlib.Core.Path.{_∙_, sym}
 
 pub write-special-one : One write-special.ended write-special-reads.Post (λ κs s. now (s .0))
 write-special-one κs a r₁ r₂ s₁ s₂ p q = (p .0 ∙ sym (q .0), p .1 ∙ sym (q .1))

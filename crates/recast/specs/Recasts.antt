@@ -2,7 +2,7 @@
 -- `words.Layout.variantCode` has them. Document 01, "Casts".
 use Prim.Native.Nat.{ℕ}
 use lib.Dec.{ltb, eqb}
-use lib.IntN.{ℤ, pos}
+use lib.IntN.{pos}
 use mir.Syntax.{Sign, unsigned, signed, Width, w8, w16, w32, w64, w128}
 use Rattle.types.specs.Choice.{pick}
 use Rattle.types.specs.declared.Wide.{Wide}

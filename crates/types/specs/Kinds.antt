@@ -1,6 +1,5 @@
 -- Kinds and specials and their codes. Document 01, "Bytes of an atom".
 use Prim.Native.Nat.{ℕ}
-use mathlib.Core.List.{List, [], _∷_}
 use lib.Dec.{eqb}
 use Rattle.types.specs.Choice.{pick}
 use Rattle.types.specs.declared.Kind.{Kind}

@@ -1,6 +1,4 @@
 // The fields of an answer, put into a lent buffer from its first byte on.
-ghost use Prim.Native.Nat.{_≤_};
-ghost use lib.ListN.{length};
 use crate::fields::Cursor;
 
 // How much of an answer was put, and whether it is one: not if its request could not be read, or there was no room.

@@ -6,13 +6,11 @@ use mathlib.Core.Bool.{Bool}
 use mathlib.Core.List.{List, [], _∷_, _++_}
 use lib.Dec.{ltb, eqb}
 use lib.ListN.{length, drop, getD}
-use lib.IntN.{ℤ, pos}
 use lib.Ieee.{binary32, binary64, toBits}
 use Rattle.types.specs.Choice.{pick}
 use Rattle.types.specs.Kinds.{kindCode}
 use Rattle.types.specs.Refusals.{refusalNumber, refusalData, noRoom}
 use Rattle.types.specs.declared.Refusal.{Refusal}
-use Rattle.types.specs.declared.Wide.{Wide}
 use Rattle.types.specs.declared.Integer.{Integer}
 use Rattle.types.specs.declared.Integer.the-variants as I
 use Rattle.types.specs.declared.Float.{Float}

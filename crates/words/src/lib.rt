@@ -1,10 +1,6 @@
 // Answers as numbers, for programs of other languages: each is a number, 0 or the refusal's, and eight words in a lent
 // array. The layout is `specs/Layout.antt`.
 ghost use mathlib.Core.Path.{_≡_};
-ghost use mathlib.Core.List.{[], _∷_, _++_};
-ghost use Prim.Native.Nat.{_≤_};
-ghost use lib.ListN.{length, drop};
-ghost use lib.IntN.{pos};
 ghost use Rattle.types.specs.Choice.{pick};
 ghost use Rattle.words.specs.Layout.{says, datum, numberOf, wordsOf, integerWords, valueBits, nucleusWords, floatWords};
 ghost use Rattle.words.specs.Layout.{saidAtom, saidSkipped, saidRan, saidTally, saidVersion, saidWritten, saidRefused, saidWord, saidInteger, saidAsInteger, saidCast, saidAsF32, saidAsF64, saidNarrowed};
@@ -17,7 +13,6 @@ use types::AsInteger;
 use types::AtomAnswer;
 use types::Float;
 use types::Integer;
-use types::Mark;
 use types::Nucleus;
 use types::Ran;
 use types::Refusal;

@@ -1,8 +1,7 @@
 -- `bench_loops::loop_read` is safe and ends: each atom takes the place on, and there are no more atoms than bytes.
 use Prim.Native.Nat.{_≤_, _-_}
-use mathlib.Core.Path.{_≡_, refl, _∙_}
-use native.Mathlib.Omega.{arith}
-use lib.ListN.{length, length-set}
+use mathlib.Core.Path.{_≡_}
+use lib.ListN.{length}
 use borrow.Author.Needs.{needs}
 use Rattle.bench_loops.proofs.loop_read.Statement.{statement}
 use Rattle.bench_loops.proofs.loop_read.Tie as tie

@@ -1,12 +1,8 @@
 -- `exports::pot_write_bool` meets its contract: with room for the words, the write is done and its answer said.
-use mathlib.Core.Path.{_∙_, ap}
-use mathlib.Core.Bool.{Bool}
 use denote.Ref.{now}
 use Rattle.words.specs.Layout.{saidWritten}
 use borrow.Author.Tests.{lt-ltb}
 use Rattle.exports.proofs.Wrote.{done}
-use Rattle.lent.specs.Lent.{writtenAnswer, writtenContent}
-use Rattle.writers.specs.Bytes.{specialBytes, truth}
 use borrow.Author.Needs.{needs}
 use Rattle.exports.proofs.pot_write_bool.Statement.{statement}
 use Rattle.exports.proofs.pot_write_bool.Tie as tie

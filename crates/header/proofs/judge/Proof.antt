@@ -1,5 +1,5 @@
 -- `header::judge` meets its contract: the mask is what is left of the word exactly if every bit of it is set.
-use mathlib.Core.Path.{_∙_, sym}
+use mathlib.Core.Path.{sym}
 use lib.Dec.{lit<}
 use borrow.Author.Tests.{eq-eqb, ne-eqb}
 use Rattle.header.proofs.Bits.{every}

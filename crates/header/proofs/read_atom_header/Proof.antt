@@ -1,6 +1,6 @@
 -- `header::read_atom_header` meets its contract: the first byte decides, and the later bytes are `read_later`'s.
-use mathlib.Core.Path.{_≡_, _∙_, sym, ap}
-use Prim.Native.Nat.{_+_, _/_, _%_}
+use mathlib.Core.Path.{_∙_, sym, ap}
+use Prim.Native.Nat.{_+_, _/_}
 use native.Mathlib.Omega.{arith}
 use denote.Ref.{now}
 use lib.ListN.{getD}

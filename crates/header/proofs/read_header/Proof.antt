@@ -1,5 +1,5 @@
 -- `header::read_header` meets its contract: the word of the four bytes is judged, at the place that each way leaves.
-use mathlib.Core.Path.{_≡_, _∙_, sym, ap}
+use mathlib.Core.Path.{_∙_, sym, ap}
 use native.Mathlib.Omega.{arith}
 use denote.Ref.{now}
 use lib.ListN.{drop}

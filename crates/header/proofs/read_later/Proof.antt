@@ -1,6 +1,6 @@
 -- `header::read_later` meets its contract. The invariant: nothing of the argument and of the place is lost, `Reading`.
 use mathlib.Core.Path.{_≡_, _∙_, sym}
-use Prim.Native.Nat.{ℕ, _≤_, _<_, _-_, _+_, _%_}
+use Prim.Native.Nat.{_≤_, _-_, _+_, _%_}
 use native.Mathlib.Omega.{arith}
 use borrow.Author.Needs.{needs}
 use denote.Ref.{now}

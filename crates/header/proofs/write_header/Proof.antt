@@ -1,7 +1,6 @@
 use Rattle.header.proofs.Answers.{pot}
 -- `header::write_header` meets its contract: four stores are a prefix of four bytes.
 use denote.Ref.{now}
-use mathlib.Core.Path.{_∙_, ap}
 use mathlib.Core.List.{[], _∷_}
 use native.Mathlib.Omega.{arith}
 use lib.ListN.{length-set}

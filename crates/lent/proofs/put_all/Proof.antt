@@ -1,6 +1,4 @@
 -- `lent::put_all` meets its contract: with room it is what `copy_in` ensures, without it refusal 9.
-use mathlib.Core.Path.{_∙_}
-use denote.Ref.{now}
 use borrow.Author.Needs.{needs}
 use borrow.Author.Tests.{le-ltb, lt-ltb}
 use Rattle.lent.proofs.put_all.Statement.{statement}

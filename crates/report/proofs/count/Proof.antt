@@ -4,7 +4,6 @@ use Prim.Native.Nat.{ℕ, _-_, _≤_}
 use native.Mathlib.Omega.{arith}
 use denote.Ref.{now}
 use lib.ListN.{length, drop, length-drop}
-use Rattle.types.specs.declared.TallyAnswer.{TallyAnswer}
 use Rattle.dictionary.specs.Runs.{tallyAll}
 use Rattle.report.specs.Reports.{counted}
 use Rattle.report.specs.declared.Report.the-variants as RP

@@ -1,7 +1,6 @@
 -- `report::judge` meets its contract: the length's test is the definition's, then the signature's answer decides.
-use mathlib.Core.Path.{_≡_, _∙_, sym, ap}
+use mathlib.Core.Path.{_∙_, sym, ap}
 use denote.Ref.{now}
-use lib.ListN.{length}
 use borrow.Author.Tests.{lt-ltb, le-ltb}
 use Rattle.report.specs.Reports.{reportOf, signed}
 use Rattle.report.proofs.Places.{isRead, read-long}

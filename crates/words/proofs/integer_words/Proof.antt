@@ -1,5 +1,5 @@
 -- `words::integer_words` meets its contract: each arm has its variant's number and the words of its value.
-use mathlib.Core.Path.{_≡_, _∙_, sym, ap}
+use mathlib.Core.Path.{_∙_, sym, ap}
 use mir.Syntax.{w8, w16, w32, w64}
 use mir.ValLaws.{toZ-ofZ}
 use Rattle.types.specs.Values.{wideOf}

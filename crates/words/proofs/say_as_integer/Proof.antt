@@ -1,5 +1,5 @@
 -- `words::say_as_integer` meets its contract: each arm says its case of the answer.
-use mathlib.Core.Path.{_∙_, sym, ap}
+use mathlib.Core.Path.{ap}
 use denote.Ref.{now}
 use Rattle.words.specs.Layout.{saidAsInteger}
 use Rattle.words.proofs.Says.{tells}

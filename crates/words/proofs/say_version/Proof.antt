@@ -2,7 +2,7 @@
 use mathlib.Core.Path.{_∙_, sym, ap}
 use Prim.Native.Nat.{ℕ}
 use Rattle.words.specs.Layout.{says, saidVersion}
-use Rattle.words.proofs.Says.{tells, refuses}
+use Rattle.words.proofs.Says.{tells}
 use denote.Ref.{now}
 use borrow.Author.Needs.{needs}
 use Rattle.words.proofs.say_version.Statement.{statement}

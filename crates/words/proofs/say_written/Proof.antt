@@ -1,8 +1,7 @@
 -- `words::say_written` meets its contract: each arm says its case of the answer.
-use mathlib.Core.Path.{_∙_, sym, ap}
-use Prim.Native.Nat.{ℕ}
-use Rattle.words.specs.Layout.{says, saidWritten}
-use Rattle.words.proofs.Says.{tells, refuses}
+use mathlib.Core.Path.{ap}
+use Rattle.words.specs.Layout.{saidWritten}
+use Rattle.words.proofs.Says.{tells}
 use denote.Ref.{now}
 use borrow.Author.Needs.{needs}
 use Rattle.words.proofs.say_written.Statement.{statement}

@@ -1,10 +1,8 @@
 -- `writers::copy_sixteen` meets its contract: the block holds the source's sixteen bytes, and they go where the source has
 -- them.
-use Prim.Native.Nat.{_≤_, _+_, _-_}
-use mathlib.Core.Path.{_≡_, refl, _∙_}
+use Prim.Native.Nat.{_+_, _-_}
 use native.Mathlib.Omega.{arith}
 use denote.Ref.{now}
-use lib.ListN.{length}
 use borrow.Author.Needs.{needs}
 use Rattle.writers.proofs.Copies.{block, block-holds}
 use Rattle.writers.proofs.copy_sixteen.Statement.{statement}
