@@ -1,4 +1,5 @@
 pub mod Answers
+pub mod Ends
 pub mod Integral
 pub mod Back
 pub mod Forward

@@ -3,6 +3,8 @@ pub mod Steps
 pub mod Shorts
 pub mod Letters
 pub mod Turns
+pub mod Tallying
+pub mod Running
 pub mod Fronts
 pub mod Wholes
 pub mod Price

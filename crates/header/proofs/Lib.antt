@@ -2,6 +2,7 @@ pub mod Groups
 pub mod Later
 pub mod Bits
 pub mod Answers
+pub mod Ends
 pub mod RoundTrip
 pub mod Fewest
 pub mod Zeros

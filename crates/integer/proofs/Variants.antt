@@ -117,7 +117,7 @@ two-words s at low high e f h =
     rw (l, u) refl
 
 -- a count that is allowed and none of the others is 16
-abbrev NotSmaller : ℕ → Type 0
+abbrev pub NotSmaller : ℕ → Type 0
 NotSmaller count = (((((Unit × (count ≡ 1 → ⊥)) × (count ≡ 2 → ⊥)) × (count ≡ 3 → ⊥)) × (count ≡ 4 → ⊥)) × (count ≡ 6 → ⊥)) × (count ≡ 8 → ⊥)
 
 sixteen-at : (count : ℕ) (t : Bool) → eqb count 16 ≡ t → pick t true false ≡ true → count ≡ 16

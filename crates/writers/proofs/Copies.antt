@@ -1,4 +1,5 @@
 -- A string copied in parts that may overlap: each byte goes where the source has it, so that a second copy changes nothing.
+use borrow.Author.Needs.{needs}
 use mathlib.Core.Path.{_≡_, refl, _∙_, sym, ap}
 use mathlib.Core.Bool.{Bool, true, false}
 use mathlib.Core.List.{List, [], _++_, append-assoc, append-nil}
@@ -59,14 +60,14 @@ module _ (s d : List ℕ) (room : length s ≤ length d) where
       all s d y (fewer s d (length s) room (omega arith) (length s - 4 + 4) (length s) y (omega arith) (next (length s - 4) j x y (omega arith) (omega arith) four f))
 
   -- up to 8 bytes
-  pub twice : (x y : List ℕ) → 4 ≤ length s → length s ≤ 8 → Copied s 0 4 d x → Copied s (length s - 4) (length s - 4 + 4) x y → y ≡ s ++ drop (length s) d
+  pub twice : (x y : List ℕ) → 4 ≤ length s → length s < 9 → Copied s 0 4 d x → Copied s (length s - 4) (length s - 4 + 4) x y → y ≡ s ++ drop (length s) d
   twice x y h k a b = last x y 4 h (omega arith) b (next 0 0 d x (omega arith) h a (none s d))
 
   -- up to 16
-  pub four-times : (w x y z : List ℕ) → 8 ≤ length s → length s ≤ 16 → Copied s 0 4 d w → Copied s 4 8 w x → Copied s (length s - 8) (length s - 8 + 4) x y → Copied s (length s - 4) (length s - 4 + 4) y z → z ≡ s ++ drop (length s) d
+  pub four-times : (w x y z : List ℕ) → 9 ≤ length s → length s < 17 → Copied s 0 4 d w → Copied s 4 8 w x → Copied s (length s - 8) (length s - 8 + 4) x y → Copied s (length s - 4) (length s - 4 + 4) y z → z ≡ s ++ drop (length s) d
   four-times w x y z h k a b c e =
       let f = next 0 0 d w (omega arith) (omega arith) a (none s d) in
-      let g = next 4 4 w x (omega arith) h b f in
+      let g = next 4 4 w x (omega arith) (omega arith) b f in
       let l = next (length s - 8) 8 x y (omega arith) (omega arith) c g in
       last y z (length s - 8 + 4) (omega arith) (omega arith) e l
 
@@ -145,3 +146,5 @@ block-holds s z b i n h k e =
     let small : length z ≤ length (take n (drop i s)) = rw (part-length s i n h) k in
     let none-left : drop (length (take n (drop i s))) z ≡ [] = drop-of-length-le z small in
     e ∙ ap (λ (a : List ℕ). take n (drop i s) ++ a) none-left ∙ append-nil (take n (drop i s))
+
+pub ruleset copies = (twice, four-times, needs)

@@ -3,3 +3,4 @@ pub mod Wrote
 pub mod Signed
 pub mod Words
 pub mod Copies
+pub mod Ends

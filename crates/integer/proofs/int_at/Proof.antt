@@ -1,94 +1,29 @@
 -- `integer::int_at` meets its contract: each arm is the one law of a signed arm, at its count.
-use denote.Ref.{now}
-use native.Mathlib.Omega.{arith}
-use mir.Syntax.{w8, w16, w32, w64}
-use Rattle.types.specs.declared.Integer.the-variants as I
-use Rattle.integer.proofs.Variants.{signed-arm, signed-wide-arm, sixteen, int-1, int-2, int-3, int-4, int-6, int-8}
-use borrow.Author.Needs.{needs}
+use Rattle.integer.proofs.Arms.{arms}
 use Rattle.integer.proofs.int_at.Statement.{statement}
 use Rattle.integer.proofs.int_at.Tie as tie
-
-le1-requires : tie.Need-le1-requires
-le1-requires c κs = search needs
-
-i8-of-requires : tie.Need-i8-of-requires
-i8-of-requires c κs = search needs
-
-returns : tie.Need-returns
-returns c = let a = c .before .before .before .before .args in signed-arm (now (a .source)) (a .at) (a .count) 1 (c .before .before .match .keys1) w8 I.I8 int-1 (c .before .le1 .result) (c .i8-of .result) (c .before .le1 .ensures .0) (c .i8-of .ensures) (search needs)
-
-le2-requires : tie.Need-le2-requires
-le2-requires c κs = search needs
-
-i16-of-requires : tie.Need-i16-of-requires
-i16-of-requires c κs = search needs
-
-returns-2 : tie.Need-returns-2
-returns-2 c = let a = c .before .before .before .before .args in signed-arm (now (a .source)) (a .at) (a .count) 2 (c .before .before .match .keys2) w16 I.I16 int-2 (c .before .le2 .result) (c .i16-of .result) (c .before .le2 .ensures .0) (c .i16-of .ensures) (search needs)
-
-le3-requires : tie.Need-le3-requires
-le3-requires c κs = search needs
-
-i24-of-requires : tie.Need-i24-of-requires
-i24-of-requires c κs = search needs
-
-returns-3 : tie.Need-returns-3
-returns-3 c = let a = c .before .before .before .before .args in signed-arm (now (a .source)) (a .at) (a .count) 3 (c .before .before .match .keys3) w32 I.I32 int-3 (c .before .le3 .result) (c .i24-of .result) (c .before .le3 .ensures .0) (c .i24-of .ensures) (search needs)
-
-le4-requires : tie.Need-le4-requires
-le4-requires c κs = search needs
-
-i32-of-requires : tie.Need-i32-of-requires
-i32-of-requires c κs = search needs
-
-returns-4 : tie.Need-returns-4
-returns-4 c = let a = c .before .before .before .before .args in signed-arm (now (a .source)) (a .at) (a .count) 4 (c .before .before .match .keys4) w32 I.I32 int-4 (c .before .le4 .result) (c .i32-of .result) (c .before .le4 .ensures .0) (c .i32-of .ensures) (search needs)
-
-le6-requires : tie.Need-le6-requires
-le6-requires c κs = search needs
-
-i48-of-requires : tie.Need-i48-of-requires
-i48-of-requires c κs = search needs
-
-returns-5 : tie.Need-returns-5
-returns-5 c = let a = c .before .before .before .before .args in signed-arm (now (a .source)) (a .at) (a .count) 6 (c .before .before .match .keys5) w64 I.I64 int-6 (c .before .le6 .result) (c .i48-of .result) (c .before .le6 .ensures .0) (c .i48-of .ensures) (search needs)
-
-le8-requires : tie.Need-le8-requires
-le8-requires c κs = search needs
-
-i64-of-requires : tie.Need-i64-of-requires
-i64-of-requires c κs = search needs
-
-returns-6 : tie.Need-returns-6
-returns-6 c = let a = c .before .before .before .before .args in signed-arm (now (a .source)) (a .at) (a .count) 8 (c .before .before .match .keys6) w64 I.I64 int-8 (c .before .le8 .result) (c .i64-of .result) (c .before .le8 .ensures .0) (c .i64-of .ensures) (search needs)
-
-wide-at-requires : tie.Need-wide-at-requires
-wide-at-requires c κs = omega (arith, sixteen (c .before .before .args .count) (c .before .before .pre .0) (c .match .rest))
-
-returns-7 : tie.Need-returns-7
-returns-7 c = let a = c .before .before .before .args in signed-wide-arm (now (a .source)) (a .at) (a .count) (c .wide-at .result) (c .wide-at .ensures) (sixteen (a .count) (c .before .before .before .pre .0) (c .before .match .rest))
 
 pub int-at-spec : {M : Type 1} → statement M
 int-at-spec =
     tie.close
     (tie.spec
-    le1-requires
-    i8-of-requires
-    returns
-    le2-requires
-    i16-of-requires
-    returns-2
-    le3-requires
-    i24-of-requires
-    returns-3
-    le4-requires
-    i32-of-requires
-    returns-4
-    le6-requires
-    i48-of-requires
-    returns-5
-    le8-requires
-    i64-of-requires
-    returns-6
-    wide-at-requires
-    returns-7)
+    (λ c κs. search arms)
+    (λ c κs. search arms)
+    (λ c. search arms)
+    (λ c κs. search arms)
+    (λ c κs. search arms)
+    (λ c. search arms)
+    (λ c κs. search arms)
+    (λ c κs. search arms)
+    (λ c. search arms)
+    (λ c κs. search arms)
+    (λ c κs. search arms)
+    (λ c. search arms)
+    (λ c κs. search arms)
+    (λ c κs. search arms)
+    (λ c. search arms)
+    (λ c κs. search arms)
+    (λ c κs. search arms)
+    (λ c. search arms)
+    (λ c κs. search arms)
+    (λ c. search arms))
