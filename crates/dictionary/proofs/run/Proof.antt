@@ -12,6 +12,15 @@ Inv-loop source atoms₀ at₀ left₀ atoms at left = Running source (record { 
 abbrev μ-loop : tie.MeasureT-loop
 μ-loop source atoms₀ at₀ left₀ atoms at left = length source - at
 
+loop-again : tie.Need-loop-again Inv-loop μ-loop
+loop-again c = search run-ends
+
+returns : tie.Need-returns Inv-loop μ-loop
+returns c = search run-ends
+
+returns-2 : tie.Need-returns-2 Inv-loop μ-loop
+returns-2 c = search run-ends
+
 pub run-spec : {M : Type 1} → statement M
 run-spec =
     tie.close
@@ -25,12 +34,12 @@ run-spec =
     (λ c. search run-ends)
     (λ c. search run-ends)
     (λ c. search run-ends)
-    (λ c. search run-ends)
+    loop-again
     (λ c κs. search run-ends)
     (λ c. search run-ends)
     (λ c. search run-ends)
     (λ c. search run-ends)
     (λ c. search run-ends)
     (λ c. search run-ends)
-    (λ c. search run-ends)
-    (λ c. search run-ends))
+    returns
+    returns-2)

@@ -11,24 +11,25 @@ Inv-loop source atoms₀ body₀ charge₀ letters₀ at₀ atoms body charge le
 abbrev μ-loop : tie.MeasureT-loop
 μ-loop source atoms₀ body₀ charge₀ letters₀ at₀ atoms body charge letters at = length source - at
 
+returns : tie.Need-returns Inv-loop μ-loop
+returns c = search tally-laws
+
+loop-again-2 : tie.Need-loop-again-2 Inv-loop μ-loop
+loop-again-2 c = search tally-laws
+
+returns-2 : tie.Need-returns-2 Inv-loop μ-loop
+returns-2 c = search tally-laws
+
+returns-3 : tie.Need-returns-3 Inv-loop μ-loop
+returns-3 c = search tally-laws
+
 pub tally-spec : {M : Type 1} → statement M
 tally-spec =
     tie.close
     (tie.spec
     Inv-loop
     μ-loop
-    (λ c. search tally-laws)
-    (λ c. search tally-laws)
-    (λ c κs. search tally-laws)
-    (λ c. search tally-laws)
-    (λ c. search tally-laws)
-    (λ c. search tally-laws)
-    (λ c. search tally-laws)
-    (λ c. search tally-laws)
-    (λ c. search tally-laws)
-    (λ c κs. search tally-laws)
-    (λ c. search tally-laws)
-    (λ c. search tally-laws)
+    returns
     (λ c. search tally-laws)
     (λ c κs. search tally-laws)
     (λ c. search tally-laws)
@@ -41,7 +42,18 @@ tally-spec =
     (λ c. search tally-laws)
     (λ c. search tally-laws)
     (λ c. search tally-laws)
+    (λ c κs. search tally-laws)
+    (λ c. search tally-laws)
+    (λ c. search tally-laws)
+    (λ c. search tally-laws)
+    (λ c. search tally-laws)
     (λ c. search tally-laws)
     (λ c. search tally-laws)
     (λ c κs. search tally-laws)
-    (λ c. search tally-laws))
+    (λ c. search tally-laws)
+    (λ c. search tally-laws)
+    loop-again-2
+    (λ c. search tally-laws)
+    returns-2
+    (λ c κs. search tally-laws)
+    returns-3)

@@ -3,6 +3,15 @@ use Rattle.header.proofs.Ends.{header-ends}
 use Rattle.header.proofs.read_atom_header.Statement.{statement}
 use Rattle.header.proofs.read_atom_header.Tie as tie
 
+returns : tie.Need-returns
+returns c = search header-ends
+
+returns-3 : tie.Need-returns-3
+returns-3 c = search header-ends
+
+returns-4 : tie.Need-returns-4
+returns-4 c = search header-ends
+
 pub read-atom-header-spec : {M : Type 1} → statement M
 read-atom-header-spec =
     tie.close
@@ -12,10 +21,10 @@ read-atom-header-spec =
     (λ c κs. search header-ends)
     (λ c κs. search header-ends)
     (λ c. search header-ends)
-    (λ c. search header-ends)
-    (λ c. search header-ends)
-    (λ c κs. search header-ends)
+    returns
     (λ c. search header-ends)
     (λ c κs. search header-ends)
     (λ c. search header-ends)
-    (λ c. search header-ends))
+    (λ c κs. search header-ends)
+    returns-3
+    returns-4)
