@@ -5,35 +5,20 @@ use borrow.Author.Needs.{needs}
 use Rattle.bench_loops.proofs.answer4.Statement.{statement}
 use Rattle.bench_loops.proofs.answer4.Tie as tie
 
-returns : tie.Need-returns
-returns c = search needs
-
-slice-write-out : tie.Need-slice-write-out
-slice-write-out c = search needs
-
 slice-write-out-2 : tie.Need-slice-write-out-2
 slice-write-out-2 c = simp length-set (omega arith)
 
 slice-write-out-3 : tie.Need-slice-write-out-3
 slice-write-out-3 c = simp length-set (omega arith)
 
-slice-write-out-4 : tie.Need-slice-write-out-4
-slice-write-out-4 c = search needs
-
-same-length : tie.Need-same-length
-same-length c = search needs
-
-returns-2 : tie.Need-returns-2
-returns-2 c = search needs
-
 pub answer4-spec : {M : Type 1} → statement M
 answer4-spec =
     tie.close
     (tie.spec
-    returns
-    slice-write-out
+    (λ c. search needs)
+    (λ c. search needs)
     slice-write-out-2
     slice-write-out-3
-    slice-write-out-4
-    same-length
-    returns-2)
+    (λ c. search needs)
+    (λ c. search needs)
+    (λ c. search needs))

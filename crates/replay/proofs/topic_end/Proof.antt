@@ -1,5 +1,5 @@
--- `replay::topic_end` meets its contract. The invariant: the place is between the start and the end of the text. The measure
--- is what is left of the text.
+-- `replay::topic_end` meets its contract. The invariant: the place is between the start and the end of the text. The
+-- measure is what is left of the text.
 use Prim.Native.Nat.{_-_, _≤_}
 use native.Mathlib.Omega.{arith}
 use lib.ListN.{length}
@@ -13,29 +13,11 @@ Inv-loop text start at₀ at = (start ≤ at) × (at ≤ length text)
 abbrev μ-loop : tie.MeasureT-loop
 μ-loop text start at₀ at = length text - at
 
-loop-holds : tie.Need-loop-holds Inv-loop μ-loop
-loop-holds c = search needs
-
-line-at-requires : tie.Need-line-at-requires Inv-loop μ-loop
-line-at-requires c κs = search needs
-
-is-heading-requires : tie.Need-is-heading-requires Inv-loop μ-loop
-is-heading-requires c κs = search needs
-
-returns : tie.Need-returns Inv-loop μ-loop
-returns c = search needs
-
-next-line-requires : tie.Need-next-line-requires Inv-loop μ-loop
-next-line-requires c κs = search needs
-
 loop-less : tie.Need-loop-less Inv-loop μ-loop
 loop-less c = omega (arith, c .next-line .ensures .1 (search needs))
 
 loop-again : tie.Need-loop-again Inv-loop μ-loop
 loop-again c = (omega (arith, c .next-line .ensures .1 (search needs)), search needs)
-
-returns-2 : tie.Need-returns-2 Inv-loop μ-loop
-returns-2 c = search needs
 
 pub topic-end-spec : {M : Type 1} → statement M
 topic-end-spec =
@@ -43,11 +25,11 @@ topic-end-spec =
     (tie.spec
     Inv-loop
     μ-loop
-    loop-holds
-    line-at-requires
-    is-heading-requires
-    returns
-    next-line-requires
+    (λ c. search needs)
+    (λ c κs. search needs)
+    (λ c κs. search needs)
+    (λ c. search needs)
+    (λ c κs. search needs)
     loop-less
     loop-again
-    returns-2)
+    (λ c. search needs))
