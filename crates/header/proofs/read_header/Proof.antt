@@ -3,6 +3,12 @@ use Rattle.header.proofs.Ends.{version-ends}
 use Rattle.header.proofs.read_header.Statement.{statement}
 use Rattle.header.proofs.read_header.Tie as tie
 
+returns : tie.Need-returns
+returns c = search version-ends
+
+returns-3 : tie.Need-returns-3
+returns-3 c = search version-ends
+
 pub read-header-spec : {M : Type 1} → statement M
 read-header-spec =
     tie.close
@@ -21,8 +27,8 @@ read-header-spec =
     (λ c. search version-ends)
     (λ c. search version-ends)
     (λ c κs. search version-ends)
-    (λ c. search version-ends)
+    returns
     (λ c κs. search version-ends)
     (λ c. search version-ends)
     (λ c κs. search version-ends)
-    (λ c. search version-ends))
+    returns-3)

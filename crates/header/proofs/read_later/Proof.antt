@@ -10,6 +10,9 @@ Inv-loop source at kind low way end place₀ arg₀ offset₀ place arg offset =
 abbrev μ-loop : tie.MeasureT-loop
 μ-loop source at kind low way end place₀ arg₀ offset₀ place arg offset = end - place
 
+loop-again : tie.Need-loop-again Inv-loop μ-loop
+loop-again c = search reading-laws
+
 pub read-later-spec : {M : Type 1} → statement M
 read-later-spec =
     tie.close
@@ -26,7 +29,7 @@ read-later-spec =
     (λ c. search reading-laws)
     (λ c. search reading-laws)
     (λ c. search reading-laws)
-    (λ c. search reading-laws)
+    loop-again
     (λ c. search reading-laws)
     (λ c. search reading-laws)
     (λ c κs. search reading-laws)

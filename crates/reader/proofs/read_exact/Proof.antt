@@ -3,6 +3,9 @@ use Rattle.reader.proofs.Ends.{exactly-ends}
 use Rattle.reader.proofs.read_exact.Statement.{statement}
 use Rattle.reader.proofs.read_exact.Tie as tie
 
+returns-2 : tie.Need-returns-2
+returns-2 c = search exactly-ends
+
 pub read-exact-spec : {M : Type 1} → statement M
 read-exact-spec =
     tie.close
@@ -13,7 +16,7 @@ read-exact-spec =
     (λ c. search exactly-ends)
     (λ c. search exactly-ends)
     (λ c κs. search exactly-ends)
-    (λ c. search exactly-ends)
+    returns-2
     (λ c κs. search exactly-ends)
     (λ c. search exactly-ends)
     (λ c. search exactly-ends))
