@@ -1,6 +1,6 @@
 -- The ends of the reads that move bytes: what the code has in hand at each return, and what it answers there. The code
 -- subtracts a start from the length where the definitions add, since a sum may not fit a usize.
-use mathlib.Core.Path.{_≡_, refl, _∙_, sym, ap}
+use mathlib.Core.Path.{_≡_, refl, _∙_}
 use mathlib.Core.Bool.{Bool, true, false, and-false}
 use mathlib.Core.List.{List, [], _∷_, _++_}
 use Prim.Native.Nat.{ℕ, _+_, _-_, _≤_, _<_}
