@@ -3,6 +3,7 @@ pub mod Later
 pub mod Bits
 pub mod Answers
 pub mod Ends
+pub mod Writes
 pub mod RoundTrip
 pub mod Fewest
 pub mod Zeros

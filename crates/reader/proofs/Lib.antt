@@ -1,5 +1,5 @@
 pub mod Strings
 pub mod Raw
 pub mod Parts
-pub mod Starts
+pub mod Ends
 pub mod Delivered

@@ -1,3 +1,4 @@
+pub mod Ends
 pub mod Ways
 pub mod Places
 pub mod Specials

@@ -1,14 +1,7 @@
 -- `types::Place::within` meets its contract: the definition goes by the same test.
-use borrow.Author.Needs.{needs}
-use borrow.Author.Tests.{lt-ltb, le-ltb}
+use Rattle.types.proofs.Ends.{place-ends}
 use Rattle.types.proofs.Place.within.Statement.{statement}
 use Rattle.types.proofs.Place.within.Tie as tie
 
-returns : tie.Need-returns
-returns c = (simp (lt-ltb _ _ (c .if1 .taken)), search needs)
-
-returns-2 : tie.Need-returns-2
-returns-2 c = (simp (le-ltb _ _ (c .if1 .left)), search needs)
-
 pub within-spec : {M : Type 1} → statement M
-within-spec = tie.close (tie.spec returns returns-2)
+within-spec = tie.close (tie.spec (λ c. search place-ends) (λ c. search place-ends))
