@@ -1,50 +1,66 @@
 -- The ends of the functions that say an answer: what is said of the parts is said of the answer.
-use mathlib.Core.Path.{_≡_, refl}
-use mathlib.Core.List.{List}
+use mathlib.Core.Path.{_≡_, refl, _∙_, sym, ap}
+use mathlib.Core.List.{List, [], _∷_}
 use Prim.Native.Nat.{ℕ}
 use borrow.Author.Needs.{needs}
-use Rattle.types.specs.Kinds.{kindCode}
-use Rattle.types.specs.Refusals.{refusalNumber}
-use Rattle.types.specs.declared.Place.{Place}
-use Rattle.types.specs.declared.Budget.{Budget}
-use Rattle.types.specs.declared.Atom.{Atom}
-use Rattle.types.specs.declared.Refusal.{Refusal}
-use Rattle.types.specs.declared.AtomAnswer.{AtomAnswer}
-use Rattle.types.specs.declared.AtomAnswer.the-variants as A
+use Rattle.types.specs.Values.{value, wideOf}
+use Rattle.types.specs.declared.Integer.{Integer}
+use Rattle.words.specs.declared.IntegerWords.{IntegerWords}
 use Rattle.words.specs.declared.NucleusWords.{NucleusWords}
-use Rattle.words.specs.Layout.{Said, says, datum, numberOf, wordsOf, nucleusWords, atomSaid, saidAtom}
+use Rattle.words.specs.Layout.{Said, says, numberOf, wordsOf, variantCode, integerWords}
 
--- the same said of an equal answer
-module _ (one other : Said) (e : one ≡ other) (old : List ℕ) where
-  number-as : (r : ℕ) → r ≡ numberOf one old → r ≡ numberOf other old
-  number-as r h = rw (← e) h
+module _ {X : Type 0} (said : X → Said) (answer : X) (old : List ℕ) where
+  -- the number and the words that were handed on are the answer's
+  pub number-told : (r number : ℕ) →
+      r ≡ numberOf (says number 0 0 0 0 0 0 0 0) old → number ≡ said answer .number → r ≡ numberOf (said answer) old
+  number-told r number e s = rw (← s) e
 
-  words-as : (new : List ℕ) → new ≡ wordsOf one old → new ≡ wordsOf other old
-  words-as new h = rw (← e) h
+  pub words-told : (new : List ℕ) (a b c d e f g h : ℕ) →
+      new ≡ wordsOf (says 0 a b c d e f g h) old → a ∷ b ∷ c ∷ d ∷ e ∷ f ∷ g ∷ h ∷ [] ≡ said answer .words →
+      new ≡ wordsOf (said answer) old
+  words-told new a b c d e f g h t s = rw (← s) t
 
-module _ (answer : AtomAnswer) (p : Place) (b : Budget) (old : List ℕ) where
-  -- an atom that was read
-  module _ (x : Atom) (code : ℕ) (w : NucleusWords) (e : answer ≡ A.Read p b x) (k : code ≡ kindCode (x .kind)) (n : w ≡ nucleusWords (x .arg) (x .nucleus)) where
-    same : atomSaid (p .0) (b .0) code (x .arg) w ≡ saidAtom answer
-    unfolding saidAtom
-    same = rw (e, k, n) refl
+  -- they are those of the case that the answer is found to be
+  module _ (case : X) (is : answer ≡ case) where
+    pub number-said : (r number : ℕ) →
+        r ≡ numberOf (says number 0 0 0 0 0 0 0 0) old → number ≡ said case .number → r ≡ numberOf (said answer) old
+    number-said r number e s = number-told r number e (rw is s)
 
-    pub read-number : (r : ℕ) → r ≡ numberOf (atomSaid (p .0) (b .0) code (x .arg) w) old → r ≡ numberOf (saidAtom answer) old
-    read-number r h = number-as _ _ same old r h
+    pub words-said : (new : List ℕ) (a b c d e f g h : ℕ) →
+        new ≡ wordsOf (says 0 a b c d e f g h) old → a ∷ b ∷ c ∷ d ∷ e ∷ f ∷ g ∷ h ∷ [] ≡ said case .words →
+        new ≡ wordsOf (said answer) old
+    words-said new a b c d e f g h t s = words-told new a b c d e f g h t (rw is s)
 
-    pub read-words : (new : List ℕ) → new ≡ wordsOf (atomSaid (p .0) (b .0) code (x .arg) w) old → new ≡ wordsOf (saidAtom answer) old
-    read-words new h = words-as _ _ same old new h
+-- eight words are equal one by one
+module _ (a b c d e f g h i j k l m n o p : ℕ) where
+  pub eight : a ≡ i → b ≡ j → c ≡ k → d ≡ l → e ≡ m → f ≡ n → g ≡ o → h ≡ p →
+      _≡_ {A = List ℕ} (a ∷ b ∷ c ∷ d ∷ e ∷ f ∷ g ∷ h ∷ []) (i ∷ j ∷ k ∷ l ∷ m ∷ n ∷ o ∷ p ∷ [])
+  eight s t u v w x y z = cc
 
-  -- one that was refused
-  module _ (why : Refusal) (number first second : ℕ) (e : answer ≡ A.Refused p b why) (n : number ≡ refusalNumber why) (f : first ≡ datum 0 why) (s : second ≡ datum 1 why) where
-    refused : says number (p .0) (b .0) first second 0 0 0 0 ≡ saidAtom answer
-    unfolding saidAtom
-    refused = rw (e, n, f, s) refl
+-- the parts of an integer's words
+module _ (w : IntegerWords) (x : Integer) (e : w ≡ integerWords x) where
+  pub variant-part : w .variant ≡ variantCode x
+  variant-part = rw e
 
-    pub refused-number : (r : ℕ) → r ≡ numberOf (says number (p .0) (b .0) first second 0 0 0 0) old → r ≡ numberOf (saidAtom answer) old
-    refused-number r h = number-as _ _ refused old r h
+  pub low-part : w .value .lo ≡ wideOf (value x) .lo
+  low-part = rw e
 
-    pub refused-words : (new : List ℕ) → new ≡ wordsOf (says number (p .0) (b .0) first second 0 0 0 0) old → new ≡ wordsOf (saidAtom answer) old
-    refused-words new h = words-as _ _ refused old new h
+  pub high-part : w .value .hi ≡ wideOf (value x) .hi
+  high-part = rw e
 
-pub ruleset atom-ends = (read-number, read-words, refused-number, refused-words, needs)
+-- those of the words of what an atom holds
+module _ (v w : NucleusWords) (e : v ≡ w) where
+  pub case-part : v .case ≡ w .case
+  case-part = rw e
+
+  pub first-part : v .first ≡ w .first
+  first-part = rw e
+
+  pub second-part : v .second ≡ w .second
+  second-part = rw e
+
+  pub third-part : v .third ≡ w .third
+  third-part = rw e
+
+pub ruleset parts =
+    (eight, variant-part, low-part, high-part, case-part, first-part, second-part, third-part, needs)
