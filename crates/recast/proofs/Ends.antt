@@ -164,10 +164,10 @@ module _ (n : ℕ) (w : Wide) (r : Integer) where
   pub unsigned-words : 5 ≤ n → r ≡ from unsigned w128 (pos (joined w)) → r ≡ fromWords n w
   unsigned-words h e = simp (le-ltb _ _ h) e
 
+pub ruleset from-ends = (signed-words, unsigned-words, needs)
+
 -- the integer that they make, cast to the variant
 pub words-recast : (n : ℕ) (w : Wide) (x : Integer) (r : AsInteger) →
     x ≡ fromWords n w → r ≡ recast n x → r ≡ integerFrom n w
 unfolding integerFrom
 words-recast n w x r is e = rw is at e
-
-pub ruleset from-ends = (signed-words, unsigned-words, words-recast, needs)

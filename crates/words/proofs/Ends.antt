@@ -90,8 +90,6 @@ module _ (n : Narrowed) (told case : Narrowed32) (e : told ≡ answer32 n) (is :
   pub narrowed-words : (new : List ℕ) → new ≡ wordsOf (saidPattern case) old → new ≡ wordsOf (saidNarrowed n) old
   narrowed-words new s = rw (← same) s
 
-pub ruleset narrowed-ends = (narrowed-number, narrowed-words, needs)
-
 -- eight words are equal one by one
 module _ (a b c d e f g h i j k l m n o p : ℕ) where
   pub eight : a ≡ i → b ≡ j → c ≡ k → d ≡ l → e ≡ m → f ≡ n → g ≡ o → h ≡ p →

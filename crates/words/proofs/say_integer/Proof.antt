@@ -1,12 +1,12 @@
 -- `words::say_integer` meets its contract: the integer's words, said.
 use borrow.Author.Needs.{needs}
 use Rattle.words.specs.Layout.{saidInteger}
-use Rattle.words.proofs.Ends.{number-told, words-told, parts}
+use Rattle.words.proofs.Ends.{words-told, parts}
 use Rattle.words.proofs.say_integer.Statement.{statement}
 use Rattle.words.proofs.say_integer.Tie as tie
 
 returns : tie.Need-returns
-returns c = search (number-told saidInteger, words-told saidInteger, parts)
+returns c = search (words-told saidInteger, parts)
 
 pub say-integer-spec : {M : Type 1} → statement M
 say-integer-spec =
