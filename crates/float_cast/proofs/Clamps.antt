@@ -5,7 +5,11 @@ use Prim.Native.Nat.{ℕ, zero, suc, _+_, _-_, _/_, _^_, _≤_, _<_}
 use native.Mathlib.Omega.{arith}
 use lib.Dec.{ltb}
 use lib.IntN.{ℤ, pos, negsuc, negℤ}
+use borrow.Author.Needs.{needs}
 use borrow.Author.Tests.{lt-ltb, le-ltb, ltb-true, ltb-false}
+use mir.Syntax.{Width}
+use mir.Val.{SFits, toZ, ofZ}
+use mir.ValLaws.{toZ-ofZ}
 use Rattle.little.specs.Twos.{twos}
 use Rattle.little.proofs.Two.{twos-low, twos-high}
 use Rattle.float_cast.specs.Integral.{least, clamped}
@@ -58,16 +62,39 @@ minus-is (suc k) h = ap negsuc (less k)
     less : (k : ℕ) → suc k - 1 ≡ k
     less k = omega arith
 
--- two's complement of n bytes, whose half is 2 ^ h
-module _ (n h : ℕ) (half : 256 ^ n / 2 ≡ 2 ^ h) (whole : 256 ^ n ≡ 2 ^ h + 2 ^ h) (some : 0 < 2 ^ h) where
-  pub clamped-up : (r : ℤ) (a l : ℕ) → l ≡ least a (2 ^ h - 1) → r ≡ twos n l → r ≡ clamped h false a
-  clamped-up r a l e q =
-      let b : l ≤ 2 ^ h - 1 = subst (λ (x : ℕ). x ≤ 2 ^ h - 1) (sym e) (least-le a (2 ^ h - 1)) in
-      q ∙ twos-low n l (omega arith) ∙ ap pos e
+-- ---- the ends of the clamps: h bits beside the sign, as two's complement of n bytes, at a width of the machine
 
-  pub clamped-down : (r : ℤ) (a l : ℕ) → 0 < a → l ≡ least a (2 ^ h) → r ≡ twos n (256 ^ n - 1 - (l - 1)) → r ≡ clamped h true a
-  clamped-down r a l p e q =
-      let b : l ≤ 2 ^ h = subst (λ (x : ℕ). x ≤ 2 ^ h) (sym e) (least-le a (2 ^ h)) in
-      let o : 0 < l = subst (λ (x : ℕ). 0 < x) (sym e) (least-pos a (2 ^ h) p some) in
-      let back : 256 ^ n - 1 - (256 ^ n - 1 - (l - 1)) ≡ l - 1 = omega arith in
-      q ∙ twos-high n (256 ^ n - 1 - (l - 1)) (omega arith) ∙ ap negsuc back ∙ minus-is l o ∙ ap (λ (x : ℕ). negℤ (pos x)) e
+-- no magnitude
+pub clamped-none : (h : ℕ) (s : Bool) (a : ℕ) → a ≡ 0 → pos 0 ≡ clamped h s a
+clamped-none h s a e = clamped-zero h s ∙ ap (clamped h s) (sym e)
+
+-- what the lesser is, on its way
+module _ (l a b : ℕ) (e : l ≡ least a b) where
+  pub lesser-some : (a ≡ 0 → ⊥) → 0 < b → 0 < l
+  lesser-some n q = rw e (least-pos a b (omega arith) q)
+
+  pub lesser-less : (m : ℕ) → b ≤ m → l - 1 ≤ m
+  lesser-less m h = let k = least-le a b in omega arith
+
+  pub lesser-below : (m : ℕ) → b < m → l < m
+  lesser-below m h = let k = least-le a b in omega arith
+
+module _ (w : Width) (n h : ℕ) (s : Bool) (r : ℤ) (a l : ℕ) (f : SFits w r) where
+  pub clamped-up : s ≡ false → l ≡ least a (2 ^ h - 1) → r ≡ twos n l → 256 ^ n / 2 ≡ 2 ^ h → 0 < 2 ^ h →
+      toZ w (ofZ w r) ≡ clamped h s a
+  clamped-up up e q half some =
+      let b : l ≤ 2 ^ h - 1 = rw e (least-le a (2 ^ h - 1)) in
+      toZ-ofZ w r f ∙ q ∙ twos-low n l (omega arith) ∙ ap pos e ∙ ap (λ (x : Bool). clamped h x a) (sym up)
+
+  pub clamped-down : (v : ℕ) → s ≡ true → (a ≡ 0 → ⊥) → l ≡ least a (2 ^ h) → r ≡ twos n v →
+      v ≡ 256 ^ n - 1 - (l - 1) → 256 ^ n / 2 ≡ 2 ^ h → 256 ^ n ≡ 2 ^ h + 2 ^ h → 0 < 2 ^ h →
+      toZ w (ofZ w r) ≡ clamped h s a
+  clamped-down v down p e q is half whole some =
+      let b : l ≤ 2 ^ h = rw e (least-le a (2 ^ h)) in
+      let o : 0 < l = lesser-some l a (2 ^ h) e p some in
+      let back : 256 ^ n - 1 - v ≡ l - 1 = omega arith in
+      toZ-ofZ w r f ∙ q ∙ twos-high n v (omega arith) ∙ ap negsuc back ∙ minus-is l o
+      ∙ ap (λ (x : ℕ). negℤ (pos x)) e ∙ ap (λ (x : Bool). clamped h x a) (sym down)
+
+pub ruleset clamp-ends =
+    (clamped-none, lesser-some, lesser-less, lesser-below, clamped-up, clamped-down, least-left, least-right, needs)

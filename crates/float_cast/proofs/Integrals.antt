@@ -8,13 +8,15 @@ use lib.Dec.{T, ltb, eqb}
 use lib.IntN.{ℤ}
 use lib.Pow.{pow-mono}
 use lib.Ieee.{Float, binary64, fits, toBits}
-use mir.Syntax.{signed, Width, w32}
-use mir.Val.{hbits}
+use mir.Syntax.{signed, Width, w32, w64}
+use mir.Val.{SFits, hbits, toZ, ofZ}
+use mir.ValLaws.{toZ-ofZ}
 use borrow.Author.Tests.{lt-ltb, le-ltb, ltb-true}
 use Rattle.types.specs.Choice.{pick}
 use Rattle.types.specs.declared.Float as Variant
 use Rattle.types.specs.declared.Float.the-variants as F
 use Rattle.types.specs.declared.Refusal.the-variants as R
+use Rattle.types.specs.declared.Integer.{Integer}
 use Rattle.types.specs.declared.AsInteger.{AsInteger}
 use Rattle.types.specs.declared.AsInteger.the-variants as AsInteger
 use Rattle.binary.specs.Formats.{double, negative, exponent, fraction, magnitude, Meaning, finite, infinite, nan, meaning}
@@ -144,26 +146,44 @@ module _ (k small : ℕ) (w : Width) (bound : 51 + small ≡ 1074 - k) (room : 2
   plain-integral (nan s t) = refl
 
   -- a float by its pattern
-  module _ (x : Float) (F : T (fits binary64 x)) (b : ℕ) (e : b ≡ toBits binary64 x) (r : Whole) (a : r ≡ wholeFrom small (meaning double b)) where
+  module _ (x : Float) (f : T (fits binary64 x)) (b : ℕ) (e : b ≡ toBits binary64 x) (r : Whole)
+      (a : r ≡ wholeFrom small (meaning double b)) where
     means : integral k w (meaning double b) ≡ integral k w (floatMeaning x)
-    means = plain-integral (meaning double b) ∙ ap (λ (n : ℕ). integral k w (plain (meaning double n))) e ∙ ap (integral k w) (toBits-means binary64 x F)
+    means =
+        plain-integral (meaning double b) ∙ ap (λ (n : ℕ). integral k w (plain (meaning double n))) e
+        ∙ ap (integral k w) (toBits-means binary64 x f)
 
-    pub integer-taken : (n : ℕ) (z : ℤ) → r ≡ Whole.Number n → z ≡ clamped (hbits w) (negative double b) n → AsInteger.Value (from signed w z) ≡ integral k w (floatMeaning x)
-    integer-taken n z h q = ap (λ (y : ℤ). AsInteger.Value (from signed w y)) q ∙ go (reading double b) ∙ means
+    -- it has a whole number, which is clamped and handed to `From`
+    pub integer-taken : (n : ℕ) (z : ℤ) (i : Integer) → r ≡ Whole.Number n → SFits w z →
+        z ≡ clamped (hbits w) (negative double b) n → i ≡ from signed w (toZ w (ofZ w z)) →
+        AsInteger.Value i ≡ integral k w (floatMeaning x)
+    integer-taken n z i h s q o =
+        ap AsInteger.Value o ∙ ap (λ (y : ℤ). AsInteger.Value (from signed w y)) (toZ-ofZ w z s ∙ q)
+        ∙ go (reading double b) ∙ means
       where
         found : wholeFrom small (meaning double b) ≡ Whole.Number n
         found = sym a ∙ h
 
-        go : Reading double b → AsInteger.Value (from signed w (clamped (hbits w) (negative double b) n)) ≡ integral k w (meaning double b)
+        go : Reading double b →
+            AsInteger.Value (from signed w (clamped (hbits w) (negative double b) n)) ≡ integral k w (meaning double b)
         go (is-finite o m) =
-            meant-number (negative double b) (magnitude double (exponent double b) (fraction double b)) n (sym (ap (wholeFrom small) m) ∙ found) ∙ ap (integral k w) (sym m)
+            meant-number (negative double b) (magnitude double (exponent double b) (fraction double b)) n
+            (sym (ap (wholeFrom small) m) ∙ found) ∙ ap (integral k w) (sym m)
         go (is-infinite o z m) = absurd (no-infinite (negative double b) n (sym (ap (wholeFrom small) m) ∙ found))
-        go (is-nan o z m) = absurd (no-nan (negative double b) (fraction double b) n (sym (ap (wholeFrom small) m) ∙ found))
+        go (is-nan o z m) =
+            absurd (no-nan (negative double b) (fraction double b) n (sym (ap (wholeFrom small) m) ∙ found))
 
+    -- it has none
     pub integer-lost : r ≡ Whole.Lost → AsInteger.Refused R.ImpreciseCastWouldLoseData ≡ integral k w (floatMeaning x)
     integer-lost h = meant-lost (meaning double b) (sym a ∙ h) ∙ means
 
--- an F32, by the value that it carries
-pub single-integer : (x : Variant.Float) (v : Float) → x ≡ F.F32 v → integral 23 w32 (floatMeaning (floatValue x)) ≡ asInteger x
-unfolding asInteger
-single-integer x v e = ap (λ (y : Variant.Float). integral 23 w32 (floatMeaning (floatValue y))) e ∙ sym (ap asInteger e)
+-- an F64 by its value, and an F32 by the value that it carries
+module _ (x : Variant.Float) (v : Float) (r : AsInteger) where
+  pub double-integer : x ≡ F.F64 v → r ≡ integral 52 w64 (floatMeaning v) → r ≡ asInteger x
+  unfolding asInteger
+  double-integer is e = rw is e
+
+  pub single-integer : (y : Float) →
+      x ≡ F.F32 v → y ≡ floatValue x → r ≡ integral 23 w32 (floatMeaning y) → r ≡ asInteger x
+  unfolding asInteger
+  single-integer y is c e = rw is (rw (c, is) at e)

@@ -5,9 +5,11 @@ use Prim.Native.Nat.{ℕ, zero, suc, _+_, _-_, _*_, _/_, _%_, _^_, _≤_, _<_}
 use native.Mathlib.Nat.{mul-one, mul-assoc, mul-pos, mul-mod-left, mul-div-cancel, mul-div-mul-right, div-add-mod', mod-eq-of-lt, eq-of-mul-eq-mul-right, zero-mul, add-zero, le-trans, le-of-eq, lt-of-lt-of-le, mul-le-mul-right}
 use native.Mathlib.Omega.{arith}
 use lib.Arith.{mod-mul}
-use lib.Pow.{pow-add, pow-pos, pow-mono, shl-lt, shr-le}
+use lib.Pow.{pow-add, pow-pos, pow-mono, shl-lt, shl-exact, shr-le}
+use borrow.Author.Needs.{needs}
 use borrow.Author.Tests.{eq-eqb, ne-eqb}
 use Rattle.binary.specs.Formats.{double, smallests, magnitude}
+use Rattle.binary.proofs.Steps.{shift-back}
 use Rattle.float_cast.specs.Integral.{one, least}
 use Rattle.float_cast.specs.Steps.{most, wholeOf}
 use Rattle.float_cast.specs.declared.Whole.{Whole}
@@ -103,9 +105,15 @@ module _ (e t : ℕ) (some : 0 < e) (T : t < 2 ^ 52) where
     parts : 1075 - e + (e - 1) ≡ 1074
     parts = omega arith
 
-    pub digits-whole : (2 ^ 52 + t) / 2 ^ (1075 - e) * 2 ^ (1075 - e) ≡ 2 ^ 52 + t → Whole.Number ((2 ^ 52 + t) / 2 ^ (1075 - e)) ≡ wholeOf (magnitude double e t)
-    digits-whole w =
+    -- shifted down and back up, in 64 bits
+    back : (2 ^ 52 + t) / 2 ^ (1075 - e) * 2 ^ (1075 - e) % 2 ^ 64 ≡ (2 ^ 52 + t) / 2 ^ (1075 - e) * 2 ^ (1075 - e)
+    back = shift-back (2 ^ 52 + t) (1075 - e) 64 (omega arith)
+
+    pub digits-whole : (2 ^ 52 + t) / 2 ^ (1075 - e) * 2 ^ (1075 - e) % 2 ^ 64 ≡ 2 ^ 52 + t →
+        Whole.Number ((2 ^ 52 + t) / 2 ^ (1075 - e)) ≡ wholeOf (magnitude double e t)
+    digits-whole s =
         let d = 1075 - e in
+        let w : (2 ^ 52 + t) / 2 ^ d * 2 ^ d ≡ 2 ^ 52 + t = sym back ∙ s in
         let small : (2 ^ 52 + t) / 2 ^ d < most = small-quotient ((2 ^ 52 + t) / 2 ^ d) (shr-le (2 ^ 52 + t) d) in
         ap Whole.Number (least-left ((2 ^ 52 + t) / 2 ^ d) most small)
         ∙ sym (ap wholeOf (normal e t some)
@@ -116,12 +124,13 @@ module _ (e t : ℕ) (some : 0 < e) (T : t < 2 ^ 52) where
         small-quotient : (q : ℕ) → q ≤ 2 ^ 52 + t → q < most
         small-quotient q l = omega arith
 
-    pub digits-lost : ((2 ^ 52 + t) / 2 ^ (1075 - e) * 2 ^ (1075 - e) ≡ 2 ^ 52 + t → ⊥) → Whole.Lost ≡ wholeOf (magnitude double e t)
+    pub digits-lost : ((2 ^ 52 + t) / 2 ^ (1075 - e) * 2 ^ (1075 - e) % 2 ^ 64 ≡ 2 ^ 52 + t → ⊥) →
+        Whole.Lost ≡ wholeOf (magnitude double e t)
     digits-lost w =
         let d = 1075 - e in
         sym (ap wholeOf (normal e t some)
         ∙ whole-lost ((2 ^ 52 + t) * 2 ^ (e - 1))
-        (λ z. w (no-rest (2 ^ 52 + t) (2 ^ d)
+        (λ z. w (back ∙ no-rest (2 ^ 52 + t) (2 ^ d)
         (eq-of-mul-eq-mul-right (2 ^ (e - 1)) (pow-pos (e - 1)) ((2 ^ 52 + t) % 2 ^ d) 0
         (sym (low-rest (2 ^ 52 + t) (e - 1) d 1074 parts) ∙ z ∙ sym (zero-mul (2 ^ (e - 1))))))))
 
@@ -136,9 +145,10 @@ module _ (e t : ℕ) (some : 0 < e) (T : t < 2 ^ 52) where
         (high-rest (2 ^ 52 + t) (e - 1) (e - 1075) 1074 raised)
         (high-quotient (2 ^ 52 + t) (e - 1) (e - 1075) 1074 raised)
 
-    pub moved-up : e < 1086 → Whole.Number ((2 ^ 52 + t) * 2 ^ (e - 1075)) ≡ wholeOf (magnitude double e t)
+    pub moved-up : e < 1086 → Whole.Number ((2 ^ 52 + t) * 2 ^ (e - 1075) % 2 ^ 64) ≡ wholeOf (magnitude double e t)
     moved-up l =
-        ap Whole.Number (least-left ((2 ^ 52 + t) * 2 ^ (e - 1075)) most (below-one (2 ^ 52 + t) (e - 1075) 63 S-lt (omega arith)))
+        ap Whole.Number (shl-exact 53 (e - 1075) 64 S-lt (omega arith)
+        ∙ least-left ((2 ^ 52 + t) * 2 ^ (e - 1075)) most (below-one (2 ^ 52 + t) (e - 1075) 63 S-lt (omega arith)))
         ∙ sym from-one
 
     pub too-large : 1086 ≤ e → Whole.Number most ≡ wholeOf (magnitude double e t)
@@ -146,6 +156,8 @@ module _ (e t : ℕ) (some : 0 < e) (T : t < 2 ^ 52) where
         let far : 2 ^ 63 ≤ (2 ^ 52 + t) * 2 ^ (e - 1075) =
         le-trans (pow-mono {i = 63} {j = 52 + (e - 1075)} (omega arith)) (le-trans (le-of-eq (pow-add 2 52 (e - 1075))) (mul-le-mul-right (2 ^ (e - 1075)) (omega arith))) in
         ap Whole.Number (least-right ((2 ^ 52 + t) * 2 ^ (e - 1075)) most far) ∙ sym from-one
+
+pub ruleset whole-ends = (under-one, digits-whole, digits-lost, moved-up, too-large, needs)
 
 -- ---- a magnitude below 2 ^ (51 + E): the exponent's field is below E
 
