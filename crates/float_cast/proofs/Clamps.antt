@@ -37,7 +37,9 @@ least-pos a b p q = least-cases (λ (n : ℕ). 0 < n) a b (λ h. p) (λ h. q)
 
 -- a bound above the last says nothing
 pub least-least : (n m b : ℕ) → b ≤ m → least (least n m) b ≡ least n b
-least-least n m b h = least-cases (λ (x : ℕ). least x b ≡ least n b) n m (λ l. refl) (λ l. sym (least-right m b h) ∙ least-right n b (omega arith))
+least-least n m b h =
+    least-cases (λ (x : ℕ). least x b ≡ least n b) n m (λ l. refl)
+    (λ l. sym (least-right m b h) ∙ least-right n b (omega arith))
 
 -- ---- the clamped number
 

@@ -1,8 +1,10 @@
--- The whole number of a binary64 magnitude: where its exponent puts the last digit. `S` is the significand, `x` the exponent's
--- field less 1, so that the magnitude is S * 2 ^ x.
-use mathlib.Core.Path.{_≡_, sym, ap, _∙_, subst}
+-- The whole number of a binary64 magnitude: where its exponent puts the last digit. `S` is the significand, `x` the
+-- exponent's field less 1, so that the magnitude is S * 2 ^ x.
+use mathlib.Core.Path.{_≡_, sym, ap, _∙_}
 use Prim.Native.Nat.{ℕ, zero, suc, _+_, _-_, _*_, _/_, _%_, _^_, _≤_, _<_}
-use native.Mathlib.Nat.{mul-one, mul-assoc, mul-pos, mul-mod-left, mul-div-cancel, mul-div-mul-right, div-add-mod', mod-eq-of-lt, eq-of-mul-eq-mul-right, zero-mul, add-zero, le-trans, le-of-eq, lt-of-lt-of-le, mul-le-mul-right}
+use native.Mathlib.Nat.{mul-one, mul-assoc, mul-pos, mul-mod-left, mul-div-cancel, mul-div-mul-right, div-add-mod'}
+use native.Mathlib.Nat.{mod-eq-of-lt, eq-of-mul-eq-mul-right, zero-mul, add-zero, le-trans, le-of-eq, lt-of-lt-of-le}
+use native.Mathlib.Nat.{mul-le-mul-right}
 use native.Mathlib.Omega.{arith}
 use lib.Arith.{mod-mul}
 use lib.Pow.{pow-add, pow-pos, pow-mono, shl-lt, shl-exact, shr-le}
@@ -99,7 +101,8 @@ module _ (e t : ℕ) (some : 0 < e) (T : t < 2 ^ 52) where
   under-one h =
       sym (ap wholeOf (normal e t some)
       ∙ whole-lost ((2 ^ 52 + t) * 2 ^ (e - 1))
-      (some-left (2 ^ 52 + t) (2 ^ (e - 1)) (2 ^ 1074) S-pos (pow-pos (e - 1)) (below-one (2 ^ 52 + t) (e - 1) 1074 S-lt (omega arith))))
+      (some-left (2 ^ 52 + t) (2 ^ (e - 1)) (2 ^ 1074) S-pos (pow-pos (e - 1))
+      (below-one (2 ^ 52 + t) (e - 1) 1074 S-lt (omega arith))))
 
   module _ (h : e < 1075) where
     parts : 1075 - e + (e - 1) ≡ 1074
@@ -118,7 +121,8 @@ module _ (e t : ℕ) (some : 0 < e) (T : t < 2 ^ 52) where
         ap Whole.Number (least-left ((2 ^ 52 + t) / 2 ^ d) most small)
         ∙ sym (ap wholeOf (normal e t some)
         ∙ whole-number ((2 ^ 52 + t) * 2 ^ (e - 1)) ((2 ^ 52 + t) / 2 ^ d)
-        (low-rest (2 ^ 52 + t) (e - 1) d 1074 parts ∙ ap (λ (n : ℕ). n * 2 ^ (e - 1)) (rest-none (2 ^ 52 + t) (2 ^ d) w) ∙ zero-mul (2 ^ (e - 1)))
+        (low-rest (2 ^ 52 + t) (e - 1) d 1074 parts ∙ ap (λ (n : ℕ). n * 2 ^ (e - 1)) (rest-none (2 ^ 52 + t) (2 ^ d) w)
+        ∙ zero-mul (2 ^ (e - 1)))
         (low-quotient (2 ^ 52 + t) (e - 1) d 1074 parts))
       where
         small-quotient : (q : ℕ) → q ≤ 2 ^ 52 + t → q < most
@@ -154,7 +158,8 @@ module _ (e t : ℕ) (some : 0 < e) (T : t < 2 ^ 52) where
     pub too-large : 1086 ≤ e → Whole.Number most ≡ wholeOf (magnitude double e t)
     too-large l =
         let far : 2 ^ 63 ≤ (2 ^ 52 + t) * 2 ^ (e - 1075) =
-        le-trans (pow-mono {i = 63} {j = 52 + (e - 1075)} (omega arith)) (le-trans (le-of-eq (pow-add 2 52 (e - 1075))) (mul-le-mul-right (2 ^ (e - 1075)) (omega arith))) in
+        le-trans (pow-mono {i = 63} {j = 52 + (e - 1075)} (omega arith))
+        (le-trans (le-of-eq (pow-add 2 52 (e - 1075))) (mul-le-mul-right (2 ^ (e - 1075)) (omega arith))) in
         ap Whole.Number (least-right ((2 ^ 52 + t) * 2 ^ (e - 1075)) most far) ∙ sym from-one
 
 pub ruleset whole-ends = (under-one, digits-whole, digits-lost, moved-up, too-large, needs)
@@ -164,8 +169,9 @@ pub ruleset whole-ends = (under-one, digits-whole, digits-lost, moved-up, too-la
 module _ (t E : ℕ) (T : t < 2 ^ 52) (some : 0 < E) where
   pub field-below : (e : ℕ) → e < E → magnitude double e t < 2 ^ (51 + E)
   unfolding smallests
-  field-below zero h = subst (λ (n : ℕ). n < 2 ^ (51 + E)) (sym (mul-one t)) (lt-of-lt-of-le T (pow-mono {i = 52} {j = 51 + E} (omega arith)))
-  field-below (suc x) h = subst (λ (n : ℕ). n < 2 ^ (51 + E)) (sym (mul-one ((2 ^ 52 + t) * 2 ^ x))) (below-one (2 ^ 52 + t) x (51 + E) (omega arith) (omega arith))
+  field-below zero h = rw (mul-one t) (lt-of-lt-of-le T (pow-mono {i = 52} {j = 51 + E} (omega arith)))
+  field-below (suc x) h =
+      rw (mul-one ((2 ^ 52 + t) * 2 ^ x)) (below-one (2 ^ 52 + t) x (51 + E) (omega arith) (omega arith))
 
   pub field-above : (e : ℕ) → E ≤ e → 2 ^ (51 + E) ≤ magnitude double e t
   unfolding smallests
@@ -174,5 +180,6 @@ module _ (t E : ℕ) (T : t < 2 ^ 52) (some : 0 < E) where
       none : (E : ℕ) → 0 < E → E ≤ 0 → ⊥
       none E h k = omega arith
   field-above (suc x) h =
-      subst (λ (n : ℕ). 2 ^ (51 + E) ≤ n) (sym (mul-one ((2 ^ 52 + t) * 2 ^ x)))
-      (le-trans (pow-mono {i = 51 + E} {j = 52 + x} (omega arith)) (le-trans (le-of-eq (pow-add 2 52 x)) (mul-le-mul-right (2 ^ x) (omega arith))))
+      rw (mul-one ((2 ^ 52 + t) * 2 ^ x))
+      (le-trans (pow-mono {i = 51 + E} {j = 52 + x} (omega arith))
+      (le-trans (le-of-eq (pow-add 2 52 x)) (mul-le-mul-right (2 ^ x) (omega arith))))
