@@ -29,14 +29,14 @@ least-cases P a b f g = go (ltb a b) refl
     go true e = subst P (least-left a b (ltb-true a b e)) (f (ltb-true a b e))
     go false e = subst P (least-right a b (ltb-false a b e)) (g (ltb-false a b e))
 
-pub least-le : (a b : ℕ) → least a b ≤ b
+least-le : (a b : ℕ) → least a b ≤ b
 least-le a b = least-cases (λ (n : ℕ). n ≤ b) a b (λ h. omega arith) (λ h. omega arith)
 
-pub least-pos : (a b : ℕ) → 0 < a → 0 < b → 0 < least a b
+least-pos : (a b : ℕ) → 0 < a → 0 < b → 0 < least a b
 least-pos a b p q = least-cases (λ (n : ℕ). 0 < n) a b (λ h. p) (λ h. q)
 
 -- a bound above the last says nothing
-pub least-least : (n m b : ℕ) → b ≤ m → least (least n m) b ≡ least n b
+least-least : (n m b : ℕ) → b ≤ m → least (least n m) b ≡ least n b
 least-least n m b h =
     least-cases (λ (x : ℕ). least x b ≡ least n b) n m (λ l. refl)
     (λ l. sym (least-right m b h) ∙ least-right n b (omega arith))
@@ -70,7 +70,7 @@ minus-is (suc k) h = ap negsuc (less k)
 pub clamped-none : (h : ℕ) (s : Bool) (a : ℕ) → a ≡ 0 → pos 0 ≡ clamped h s a
 clamped-none h s a e = clamped-zero h s ∙ ap (clamped h s) (sym e)
 
--- what the lesser is, on its way
+-- the lesser of a magnitude and a bound: it is some, and within what the next step asks
 module _ (l a b : ℕ) (e : l ≡ least a b) where
   pub lesser-some : (a ≡ 0 → ⊥) → 0 < b → 0 < l
   lesser-some n q = rw e (least-pos a b (omega arith) q)
@@ -81,6 +81,7 @@ module _ (l a b : ℕ) (e : l ≡ least a b) where
   pub lesser-below : (m : ℕ) → b < m → l < m
   lesser-below m h = let k = least-le a b in omega arith
 
+-- what is read back is the clamped number: of a sign that is not set, and of one that is
 module _ (w : Width) (n h : ℕ) (s : Bool) (r : ℤ) (a l : ℕ) (f : SFits w r) where
   pub clamped-up : s ≡ false → l ≡ least a (2 ^ h - 1) → r ≡ twos n l → 256 ^ n / 2 ≡ 2 ^ h → 0 < 2 ^ h →
       toZ w (ofZ w r) ≡ clamped h s a
