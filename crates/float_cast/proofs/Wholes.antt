@@ -1,13 +1,17 @@
--- The whole number of a binary64 magnitude: where its exponent puts the last digit. `S` is the significand, `x` the exponent's
--- field less 1, so that the magnitude is S * 2 ^ x.
-use mathlib.Core.Path.{_≡_, sym, ap, _∙_, subst}
+-- The whole number of a binary64 magnitude: where its exponent puts the last digit. `S` is the significand, `x` the
+-- exponent's field less 1, so that the magnitude is S * 2 ^ x.
+use mathlib.Core.Path.{_≡_, sym, ap, _∙_}
 use Prim.Native.Nat.{ℕ, zero, suc, _+_, _-_, _*_, _/_, _%_, _^_, _≤_, _<_}
-use native.Mathlib.Nat.{mul-one, mul-assoc, mul-pos, mul-mod-left, mul-div-cancel, mul-div-mul-right, div-add-mod', mod-eq-of-lt, eq-of-mul-eq-mul-right, zero-mul, add-zero, le-trans, le-of-eq, lt-of-lt-of-le, mul-le-mul-right}
+use native.Mathlib.Nat.{mul-one, mul-assoc, mul-pos, mul-mod-left, mul-div-cancel, mul-div-mul-right, div-add-mod'}
+use native.Mathlib.Nat.{mod-eq-of-lt, eq-of-mul-eq-mul-right, zero-mul, add-zero, le-trans, le-of-eq, lt-of-lt-of-le}
+use native.Mathlib.Nat.{mul-le-mul-right}
 use native.Mathlib.Omega.{arith}
 use lib.Arith.{mod-mul}
-use lib.Pow.{pow-add, pow-pos, pow-mono, shl-lt, shr-le}
+use lib.Pow.{pow-add, pow-pos, pow-mono, shl-lt, shl-exact, shr-le}
+use borrow.Author.Needs.{needs}
 use borrow.Author.Tests.{eq-eqb, ne-eqb}
 use Rattle.binary.specs.Formats.{double, smallests, magnitude}
+use Rattle.binary.proofs.Steps.{shift-back}
 use Rattle.float_cast.specs.Integral.{one, least}
 use Rattle.float_cast.specs.Steps.{most, wholeOf}
 use Rattle.float_cast.specs.declared.Whole.{Whole}
@@ -97,31 +101,40 @@ module _ (e t : ℕ) (some : 0 < e) (T : t < 2 ^ 52) where
   under-one h =
       sym (ap wholeOf (normal e t some)
       ∙ whole-lost ((2 ^ 52 + t) * 2 ^ (e - 1))
-      (some-left (2 ^ 52 + t) (2 ^ (e - 1)) (2 ^ 1074) S-pos (pow-pos (e - 1)) (below-one (2 ^ 52 + t) (e - 1) 1074 S-lt (omega arith))))
+      (some-left (2 ^ 52 + t) (2 ^ (e - 1)) (2 ^ 1074) S-pos (pow-pos (e - 1))
+      (below-one (2 ^ 52 + t) (e - 1) 1074 S-lt (omega arith))))
 
   module _ (h : e < 1075) where
     parts : 1075 - e + (e - 1) ≡ 1074
     parts = omega arith
 
-    pub digits-whole : (2 ^ 52 + t) / 2 ^ (1075 - e) * 2 ^ (1075 - e) ≡ 2 ^ 52 + t → Whole.Number ((2 ^ 52 + t) / 2 ^ (1075 - e)) ≡ wholeOf (magnitude double e t)
-    digits-whole w =
+    -- shifted down and back up, in 64 bits
+    back : (2 ^ 52 + t) / 2 ^ (1075 - e) * 2 ^ (1075 - e) % 2 ^ 64 ≡ (2 ^ 52 + t) / 2 ^ (1075 - e) * 2 ^ (1075 - e)
+    back = shift-back (2 ^ 52 + t) (1075 - e) 64 (omega arith)
+
+    pub digits-whole : (2 ^ 52 + t) / 2 ^ (1075 - e) * 2 ^ (1075 - e) % 2 ^ 64 ≡ 2 ^ 52 + t →
+        Whole.Number ((2 ^ 52 + t) / 2 ^ (1075 - e)) ≡ wholeOf (magnitude double e t)
+    digits-whole s =
         let d = 1075 - e in
+        let w : (2 ^ 52 + t) / 2 ^ d * 2 ^ d ≡ 2 ^ 52 + t = sym back ∙ s in
         let small : (2 ^ 52 + t) / 2 ^ d < most = small-quotient ((2 ^ 52 + t) / 2 ^ d) (shr-le (2 ^ 52 + t) d) in
         ap Whole.Number (least-left ((2 ^ 52 + t) / 2 ^ d) most small)
         ∙ sym (ap wholeOf (normal e t some)
         ∙ whole-number ((2 ^ 52 + t) * 2 ^ (e - 1)) ((2 ^ 52 + t) / 2 ^ d)
-        (low-rest (2 ^ 52 + t) (e - 1) d 1074 parts ∙ ap (λ (n : ℕ). n * 2 ^ (e - 1)) (rest-none (2 ^ 52 + t) (2 ^ d) w) ∙ zero-mul (2 ^ (e - 1)))
+        (low-rest (2 ^ 52 + t) (e - 1) d 1074 parts ∙ ap (λ (n : ℕ). n * 2 ^ (e - 1)) (rest-none (2 ^ 52 + t) (2 ^ d) w)
+        ∙ zero-mul (2 ^ (e - 1)))
         (low-quotient (2 ^ 52 + t) (e - 1) d 1074 parts))
       where
         small-quotient : (q : ℕ) → q ≤ 2 ^ 52 + t → q < most
         small-quotient q l = omega arith
 
-    pub digits-lost : ((2 ^ 52 + t) / 2 ^ (1075 - e) * 2 ^ (1075 - e) ≡ 2 ^ 52 + t → ⊥) → Whole.Lost ≡ wholeOf (magnitude double e t)
+    pub digits-lost : ((2 ^ 52 + t) / 2 ^ (1075 - e) * 2 ^ (1075 - e) % 2 ^ 64 ≡ 2 ^ 52 + t → ⊥) →
+        Whole.Lost ≡ wholeOf (magnitude double e t)
     digits-lost w =
         let d = 1075 - e in
         sym (ap wholeOf (normal e t some)
         ∙ whole-lost ((2 ^ 52 + t) * 2 ^ (e - 1))
-        (λ z. w (no-rest (2 ^ 52 + t) (2 ^ d)
+        (λ z. w (back ∙ no-rest (2 ^ 52 + t) (2 ^ d)
         (eq-of-mul-eq-mul-right (2 ^ (e - 1)) (pow-pos (e - 1)) ((2 ^ 52 + t) % 2 ^ d) 0
         (sym (low-rest (2 ^ 52 + t) (e - 1) d 1074 parts) ∙ z ∙ sym (zero-mul (2 ^ (e - 1))))))))
 
@@ -136,24 +149,29 @@ module _ (e t : ℕ) (some : 0 < e) (T : t < 2 ^ 52) where
         (high-rest (2 ^ 52 + t) (e - 1) (e - 1075) 1074 raised)
         (high-quotient (2 ^ 52 + t) (e - 1) (e - 1075) 1074 raised)
 
-    pub moved-up : e < 1086 → Whole.Number ((2 ^ 52 + t) * 2 ^ (e - 1075)) ≡ wholeOf (magnitude double e t)
+    pub moved-up : e < 1086 → Whole.Number ((2 ^ 52 + t) * 2 ^ (e - 1075) % 2 ^ 64) ≡ wholeOf (magnitude double e t)
     moved-up l =
-        ap Whole.Number (least-left ((2 ^ 52 + t) * 2 ^ (e - 1075)) most (below-one (2 ^ 52 + t) (e - 1075) 63 S-lt (omega arith)))
+        ap Whole.Number (shl-exact 53 (e - 1075) 64 S-lt (omega arith)
+        ∙ least-left ((2 ^ 52 + t) * 2 ^ (e - 1075)) most (below-one (2 ^ 52 + t) (e - 1075) 63 S-lt (omega arith)))
         ∙ sym from-one
 
     pub too-large : 1086 ≤ e → Whole.Number most ≡ wholeOf (magnitude double e t)
     too-large l =
         let far : 2 ^ 63 ≤ (2 ^ 52 + t) * 2 ^ (e - 1075) =
-        le-trans (pow-mono {i = 63} {j = 52 + (e - 1075)} (omega arith)) (le-trans (le-of-eq (pow-add 2 52 (e - 1075))) (mul-le-mul-right (2 ^ (e - 1075)) (omega arith))) in
+        le-trans (pow-mono {i = 63} {j = 52 + (e - 1075)} (omega arith))
+        (le-trans (le-of-eq (pow-add 2 52 (e - 1075))) (mul-le-mul-right (2 ^ (e - 1075)) (omega arith))) in
         ap Whole.Number (least-right ((2 ^ 52 + t) * 2 ^ (e - 1075)) most far) ∙ sym from-one
+
+pub ruleset whole-ends = (under-one, digits-whole, digits-lost, moved-up, too-large, needs)
 
 -- ---- a magnitude below 2 ^ (51 + E): the exponent's field is below E
 
 module _ (t E : ℕ) (T : t < 2 ^ 52) (some : 0 < E) where
   pub field-below : (e : ℕ) → e < E → magnitude double e t < 2 ^ (51 + E)
   unfolding smallests
-  field-below zero h = subst (λ (n : ℕ). n < 2 ^ (51 + E)) (sym (mul-one t)) (lt-of-lt-of-le T (pow-mono {i = 52} {j = 51 + E} (omega arith)))
-  field-below (suc x) h = subst (λ (n : ℕ). n < 2 ^ (51 + E)) (sym (mul-one ((2 ^ 52 + t) * 2 ^ x))) (below-one (2 ^ 52 + t) x (51 + E) (omega arith) (omega arith))
+  field-below zero h = rw (mul-one t) (lt-of-lt-of-le T (pow-mono {i = 52} {j = 51 + E} (omega arith)))
+  field-below (suc x) h =
+      rw (mul-one ((2 ^ 52 + t) * 2 ^ x)) (below-one (2 ^ 52 + t) x (51 + E) (omega arith) (omega arith))
 
   pub field-above : (e : ℕ) → E ≤ e → 2 ^ (51 + E) ≤ magnitude double e t
   unfolding smallests
@@ -162,5 +180,6 @@ module _ (t E : ℕ) (T : t < 2 ^ 52) (some : 0 < E) where
       none : (E : ℕ) → 0 < E → E ≤ 0 → ⊥
       none E h k = omega arith
   field-above (suc x) h =
-      subst (λ (n : ℕ). 2 ^ (51 + E) ≤ n) (sym (mul-one ((2 ^ 52 + t) * 2 ^ x)))
-      (le-trans (pow-mono {i = 51 + E} {j = 52 + x} (omega arith)) (le-trans (le-of-eq (pow-add 2 52 x)) (mul-le-mul-right (2 ^ x) (omega arith))))
+      rw (mul-one ((2 ^ 52 + t) * 2 ^ x))
+      (le-trans (pow-mono {i = 51 + E} {j = 52 + x} (omega arith))
+      (le-trans (le-of-eq (pow-add 2 52 x)) (mul-le-mul-right (2 ^ x) (omega arith))))
