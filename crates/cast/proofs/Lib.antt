@@ -1,6 +1,7 @@
 pub mod Words
 pub mod Ranges
 pub mod Arms
+pub mod Wides
 pub mod Zeros
 pub mod Equality
 pub mod Between

@@ -6,7 +6,7 @@ use native.Mathlib.Nat.{lt-of-lt-of-le}
 use native.Mathlib.Omega.{arith}
 use lib.Dec.{T, leb, ltb, leb→le, ltb→lt}
 use lib.Pow.{pow-mono}
-use lib.IntN.{ℤ, pos, negsuc}
+use lib.IntN.{ℤ, pos, negsuc, natAbs}
 use lib.Signed.{mag}
 use mir.Syntax.{Sign, unsigned, signed, Width, w8, w16, w32, w64, w128}
 use mir.Val.{bits, hbits, bytes, Fits, SFits, toZ, ofZ}
@@ -63,6 +63,15 @@ wider-signed v w t (negsuc n) h = absurd (false≢true h)
 -- what a signed width holds from 0 up, the unsigned width and every wider one hold
 pub wider-unsigned : (v w : Width) → T (leb (bytes v) (bytes w)) → (n : ℕ) → inRange signed v (pos n) ≡ true → inRange unsigned w (pos n) ≡ true
 wider-unsigned v w t n h = raised n (hbits v) (bits w) (hbits-bits v w t) h
+
+-- a value of an unsigned range is its magnitude, which fits the machine's number
+pub is-natural : (w : Width) (z : ℤ) → inRange unsigned w z ≡ true → pos (natAbs z) ≡ z
+is-natural w (pos n) h = refl
+is-natural w (negsuc n) h = absurd (false≢true h)
+
+pub natural-fits : (w : Width) (z : ℤ) → inRange unsigned w z ≡ true → Fits w (natAbs z)
+natural-fits w (pos n) h = record { fits = ltb-true n (2 ^ bits w) h }
+natural-fits w (negsuc n) h = absurd (false≢true h)
 
 -- and what a width does not hold, no narrower one of the same sign holds
 pub narrower : (s : Sign) (v w : Width) → T (leb (bytes v) (bytes w)) → (z : ℤ) → inRange s w z ≡ false → inRange s v z ≡ false
