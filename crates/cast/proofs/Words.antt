@@ -26,7 +26,14 @@ words-joined w h = pair _ _ w (digits-mod (w .hi) (h .0)) (digits-div (w .hi) (h
 pub joined-fits : (w : Wide) → Held w → Fits w128 (joined w)
 joined-fits w h = record { fits = digits-lt (h .1) (h .0) }
 
--- the same for the signed number
+-- the high word is 0, or it is not
+pub low-only : (w : Wide) → w .hi ≡ 0 → joined w ≡ w .lo
+low-only w e = omega arith
+
+pub high-word : (w : Wide) → (w .hi ≡ 0 → ⊥) → 2 ^ 64 ≤ joined w
+high-word w n = omega arith
+
+-- the words of the signed number
 pub wide-back : (w : Wide) → Held w → wideOf (toZ w128 (joined w)) ≡ w
 wide-back w h = ap words (ofZ-toZ w128 (joined w) (joined-fits w h)) ∙ words-joined w h
 
