@@ -6,5 +6,6 @@ pub mod Zeros
 pub mod Equality
 pub mod Between
 pub mod Exact
+pub mod Floats
 pub mod Halves
 pub mod Made
