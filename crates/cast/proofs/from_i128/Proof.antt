@@ -3,6 +3,12 @@ use Rattle.cast.proofs.Halves.{wide-from-ends}
 use Rattle.cast.proofs.from_i128.Statement.{statement}
 use Rattle.cast.proofs.from_i128.Tie as tie
 
+returns-4 : tie.Need-returns-4
+returns-4 c = search wide-from-ends
+
+returns-5 : tie.Need-returns-5
+returns-5 c = search wide-from-ends
+
 pub from-i128-spec : {M : Type 1} → statement M
 from-i128-spec =
     tie.close
@@ -16,5 +22,5 @@ from-i128-spec =
     (λ c. search wide-from-ends)
     (λ c. search wide-from-ends)
     (λ c κs. search wide-from-ends)
-    (λ c. search wide-from-ends)
-    (λ c. search wide-from-ends))
+    returns-4
+    returns-5)
