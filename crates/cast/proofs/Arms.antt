@@ -1,25 +1,21 @@
--- The arms of the casts, each kind of arm once: of an integer x that the code found to be the variant y, by y's sign, its
--- width and its value. Rests on the laws of ranges.
-use mathlib.Core.Path.{_≡_, refl, _∙_, sym, ap, subst}
-use mathlib.Core.Bool.{Bool, true, false, _&&_, false≢true}
+-- The arms of the casts, each kind of arm once: of an integer x that the code found to be the variant y, by y's sign,
+-- its width and its value. Rests on the laws of ranges.
+use mathlib.Core.Path.{_≡_, refl, _∙_, sym, ap}
+use mathlib.Core.Bool.{Bool, true, false, not, _&&_, _||_, false≢true}
 use mathlib.Core.List.{List, [], _∷_}
-use Prim.Native.Nat.{ℕ, suc, _-_, _^_, _≤_, _<_}
+use Prim.Native.Nat.{ℕ, _-_, _^_, _≤_, _<_}
 use native.Mathlib.Nat.{le-of-lt, le-refl}
 use native.Mathlib.Omega.{arith}
 use borrow.Author.Needs.{needs}
 use lib.Dec.{T, leb, ltb, ltb→lt, le→leb}
 use lib.IntN.{ℤ, pos, negsuc, natAbs}
 use lib.Signed.{leZ, nonNeg, mag}
-use mathlib.Core.Logic.{inl, inr}
-use lib.ListN.{getD}
 use lib.Pow.{pow-pos}
 use lib.Ieee.Bits.{is-true}
-use lib.Ieee.Fits.{and-l, and-r}
 use mir.Syntax.{Sign, unsigned, signed, Width, w8, w16, w32, w64, w128}
-use mir.Val.{bits, hbits, bytes, Fits, SFits, toZ, ofZ}
-use mir.ValLaws.{toZ-ofZ, toZ-pos, toZ-fits, half-full}
+use mir.Val.{hbits, bytes, Fits, SFits, toZ, ofZ, hasKey}
+use mir.ValLaws.{toZ-ofZ, toZ-pos, toZ-fits}
 use borrow.Author.Tests.{leb-false, lt-leb, lt-ltb, le-ltb, ltb-true, ltb-false}
-use denote.Enum.Declared
 use types.Run.{OneOf}
 use Rattle.types.specs.Choice.{pick}
 use Rattle.types.specs.declared.Integer.{Integer}
@@ -29,46 +25,15 @@ use Rattle.types.specs.declared.Refusal.the-variants as R
 use Rattle.types.specs.declared.Wide.{Wide}
 use Rattle.types.specs.declared.AsWide.{AsWide}
 use Rattle.types.specs.declared.AsWide.the-variants as A
-use Rattle.types.proofs.Integer as Made
 use Rattle.types.specs.Values.{joined, wideOf, value}
 use Rattle.cast.specs.Variants.{sign, width, inRange}
 use Rattle.cast.specs.Casts.{cast, keptWords, asI128, asU128}
-use Rattle.cast.proofs.Words.{Held, words-joined, joined-fits, wide-back, low-half, high-half, high-negative}
+use Rattle.cast.proofs.Places.{everyWidth, every, tag, place, placed, among}
+use Rattle.cast.proofs.Words.{words-joined, joined-fits, wide-back, low-half, high-half, high-negative}
 use Rattle.cast.proofs.Ranges.{wider, wider-signed, wider-unsigned, signed-fits, fits-signed, fits-unsigned}
 use Rattle.cast.proofs.Ranges.{is-natural, natural-fits}
 
 -- ---- the variants that are too wide, which the code has in one arm, by their places in the enum
-
--- the bytes of the variant at a place
-variantBytes : List ℕ
-variantBytes = 1 ∷ 2 ∷ 4 ∷ 8 ∷ 16 ∷ 1 ∷ 2 ∷ 4 ∷ 8 ∷ 16 ∷ []
-
-place-bytes : (x : Integer) → bytes (width x) ≡ getD variantBytes (Declared.tagOf Made.the-type x) 0
-unfolding variantBytes
-place-bytes (I.I8 v) = refl
-place-bytes (I.I16 v) = refl
-place-bytes (I.I32 v) = refl
-place-bytes (I.I64 v) = refl
-place-bytes (I.I128 v) = refl
-place-bytes (I.U8 v) = refl
-place-bytes (I.U16 v) = refl
-place-bytes (I.U32 v) = refl
-place-bytes (I.U64 v) = refl
-place-bytes (I.U128 v) = refl
-
--- every place of a list has a variant of more bytes than w
-abbrev allWider : Width → List ℕ → Bool
-unfolding variantBytes
-allWider w [] = true
-allWider w (k ∷ ks) = ltb (bytes w) (getD variantBytes k 0) && allWider w ks
-
-one-wider : (w : Width) (ks : List ℕ) (n : ℕ) → T (allWider w ks) → OneOf ks n → T (ltb (bytes w) (getD variantBytes n 0))
-unfolding variantBytes
-one-wider w [] n t o = absurd o
-one-wider w (k ∷ []) n t o = rw o (and-l (ltb (bytes w) (getD variantBytes k 0)) true t)
-one-wider w (k ∷ j ∷ ks) n t (inl e) = rw e (and-l (ltb (bytes w) (getD variantBytes k 0)) (allWider w (j ∷ ks)) t)
-one-wider w (k ∷ j ∷ ks) n t (inr o) =
-    one-wider w (j ∷ ks) n (and-r (ltb (bytes w) (getD variantBytes k 0)) (allWider w (j ∷ ks)) t) o
 
 -- the places of the variants that are wider than w, in the order in which the code names them
 abbrev placesWider : Width → List ℕ
@@ -78,21 +43,22 @@ placesWider w32 = 3 ∷ 8 ∷ 4 ∷ 9 ∷ []
 placesWider w64 = 4 ∷ 9 ∷ []
 placesWider w128 = []
 
-all-wider : (w : Width) → T (allWider w (placesWider w))
-unfolding variantBytes
-all-wider w8 = tt
-all-wider w16 = tt
-all-wider w32 = tt
-all-wider w64 = tt
-all-wider w128 = tt
+abbrev widerOrElsewhere : Sign → Width → Width → Bool
+widerOrElsewhere s v w = ltb (bytes w) (bytes v) || not (hasKey (placesWider w) (place s v))
+
+wider-or-elsewhere : (s : Sign) (v w : Width) → T (widerOrElsewhere s v w)
+wider-or-elsewhere signed v w =
+    every (widerOrElsewhere signed v) (every (λ (u : Width). everyWidth (widerOrElsewhere signed u)) tt v) w
+wider-or-elsewhere unsigned v w =
+    every (widerOrElsewhere unsigned v) (every (λ (u : Width). everyWidth (widerOrElsewhere unsigned u)) tt v) w
 
 pub too-wide : {X : Type 0} (t : Sign) (w : Width) (f : ℤ → X) (g : Refusal → X) (x : Integer) (r : X) →
-    OneOf (placesWider w) (Declared.tagOf Made.the-type x) → r ≡ g R.ImpreciseCastWouldLoseData → r ≡ cast t w f g x
+    OneOf (placesWider w) (tag x) → r ≡ g R.ImpreciseCastWouldLoseData → r ≡ cast t w f g x
 unfolding cast
 too-wide t w f g x r o q =
-    let n = Declared.tagOf Made.the-type x in
-    let k = ltb→lt (bytes w) (getD variantBytes n 0) (one-wider w (placesWider w) n (all-wider w) o) in
-    q ∙ simp (lt-leb (bytes (width x)) (bytes w) (rw (place-bytes x) k))
+    let i = wider-or-elsewhere (sign x) (width x) w in
+    let h = among (ltb (bytes w) (bytes (width x))) (placesWider w) (place (sign x) (width x)) i (rw (placed x) at o) in
+    q ∙ simp (lt-leb (bytes (width x)) (bytes w) (ltb→lt (bytes w) (bytes (width x)) h))
 
 -- ---- a number of the machine that is cast on: signed numbers stand there as their bits, read back
 
@@ -183,7 +149,8 @@ module _ {X : Type 0} (w : Width) (f : ℤ → X) (g : Refusal → X) (x y : Int
     pub negative : (r : X) → leZ (pos 0) (toZ (width y) (ofZ (width y) (value y))) ≡ false →
         r ≡ g R.ImpreciseCastWouldLoseData → r ≡ cast unsigned w f g x
     negative r t =
-        refuses unsigned r (ap (inRange unsigned w) (is-negative (value y) (rw (toZ-ofZ (width y) (value y) held) at t)))
+        let u = rw (toZ-ofZ (width y) (value y) held) at t in
+        refuses unsigned r (ap (inRange unsigned w) (is-negative (value y) u))
 
   -- of an unsigned variant
   module _ (i : inRange (sign y) (width y) (value y) ≡ true) (s : sign y ≡ unsigned) where
@@ -236,16 +203,21 @@ module _ (x : Integer) (p : Wide) (l : p .lo < 2 ^ 64) (h : p .hi < 2 ^ 64) wher
 
   -- of one sign
   pub words-signed : x ≡ I.I128 p → A.Value p ≡ asI128 x
-  words-signed e = takes w128 takenWide A.Refused x (I.I128 p) e signed (A.Value p) tt signed-in (ap A.Value (sym (wide-back p (l, h))))
+  words-signed e =
+      takes w128 takenWide A.Refused x (I.I128 p) e signed (A.Value p) tt signed-in
+      (ap A.Value (sym (wide-back p (l, h))))
 
   pub words-unsigned : x ≡ I.U128 p → A.Value p ≡ asU128 x
-  words-unsigned e = takes w128 takenWide A.Refused x (I.U128 p) e unsigned (A.Value p) tt unsigned-in (ap A.Value (sym (words-joined p (l, h))))
+  words-unsigned e =
+      takes w128 takenWide A.Refused x (I.U128 p) e unsigned (A.Value p) tt unsigned-in
+      (ap A.Value (sym (words-joined p (l, h))))
 
   -- from one sign to the other, by the high word's top bit
   pub words-to-signed : x ≡ I.U128 p → (r : AsWide) → r ≡ keptWords p → r ≡ asI128 x
   words-to-signed e r k = k ∙ by (ltb (p .hi) (2 ^ 63)) refl
     where
-      by : (b : Bool) → ltb (p .hi) (2 ^ 63) ≡ b → pick b (A.Value p) (A.Refused R.ImpreciseCastWouldLoseData) ≡ asI128 x
+      by : (b : Bool) → ltb (p .hi) (2 ^ 63) ≡ b →
+          pick b (A.Value p) (A.Refused R.ImpreciseCastWouldLoseData) ≡ asI128 x
       by true t =
           takes w128 takenWide A.Refused x (I.U128 p) e signed (A.Value p) tt
           (lt-ltb (joined p) (2 ^ 127) (low-half p (l, h) (ltb-true (p .hi) (2 ^ 63) t)))
@@ -257,10 +229,12 @@ module _ (x : Integer) (p : Wide) (l : p .lo < 2 ^ 64) (h : p .hi < 2 ^ 64) wher
   pub words-to-unsigned : x ≡ I.I128 p → (r : AsWide) → r ≡ keptWords p → r ≡ asU128 x
   words-to-unsigned e r k = k ∙ by (ltb (p .hi) (2 ^ 63)) refl
     where
-      by : (b : Bool) → ltb (p .hi) (2 ^ 63) ≡ b → pick b (A.Value p) (A.Refused R.ImpreciseCastWouldLoseData) ≡ asU128 x
+      by : (b : Bool) → ltb (p .hi) (2 ^ 63) ≡ b →
+          pick b (A.Value p) (A.Refused R.ImpreciseCastWouldLoseData) ≡ asU128 x
       by true t =
+          let k = low-half p (l, h) (ltb-true (p .hi) (2 ^ 63) t) in
           takes w128 takenWide A.Refused x (I.I128 p) e unsigned (A.Value p) tt
-          (ap (inRange unsigned w128) (toZ-pos w128 (joined p) (low-half p (l, h) (ltb-true (p .hi) (2 ^ 63) t))) ∙ unsigned-in)
+          (ap (inRange unsigned w128) (toZ-pos w128 (joined p) k) ∙ unsigned-in)
           (ap A.Value (sym (wide-back p (l, h))))
       by false t =
           refuses w128 takenWide A.Refused x (I.I128 p) e unsigned _
@@ -270,6 +244,20 @@ module _ (x : Integer) (p : Wide) (l : p .lo < 2 ^ 64) (h : p .hi < 2 ^ 64) wher
 pub made : (p q : Wide) → p ≡ q → A.Value p ≡ A.Value q
 made p q e = ap A.Value e
 
-pub ruleset cast-arms = (signed-kept, signed-widened, unsigned-kept, unsigned-widened, below-half, past-half, from-zero, negative, too-wide, through, natural-sign, natural-size, lt-ltb, needs)
+pub ruleset arms = (
+  signed-kept,
+  signed-widened,
+  unsigned-kept,
+  from-zero,
+  negative,
+  through,
+  natural-sign,
+  natural-size,
+  lt-ltb,
+  needs,
+)
 
-pub ruleset wide-arms = (signed-kept, signed-widened, unsigned-kept, unsigned-wide, from-zero, negative, words-signed, words-unsigned, words-to-signed, words-to-unsigned, made, through, natural-sign, natural-size, lt-ltb, needs)
+pub ruleset cast-arms = (unsigned-widened, below-half, past-half, too-wide, arms)
+
+pub ruleset wide-arms =
+    (unsigned-wide, words-signed, words-unsigned, words-to-signed, words-to-unsigned, made, arms)

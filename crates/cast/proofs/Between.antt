@@ -1,8 +1,8 @@
--- A whole number's tests against the two ends of a range, -b and b - 1, as the code makes them: whether it lies below, between
--- or above.
+-- A whole number's tests against the two ends of a range, -b and b - 1, as the code makes them: whether it lies below,
+-- between or above.
 use mathlib.Core.Path.{_≡_, sym}
 use mathlib.Core.Bool.{true, false, false≢true}
-use Prim.Native.Nat.{ℕ, suc, _-_, _≤_, _<_}
+use Prim.Native.Nat.{ℕ, _-_, _≤_, _<_}
 use native.Mathlib.Omega.{arith}
 use lib.Dec.{ltb}
 use lib.IntN.{ℤ, pos, negsuc}

@@ -1,5 +1,5 @@
--- The ends of `equal` and its parts: two integers are equal exactly if they stand at one place of the enum and their bits are
--- the same, of a sign and of either.
+-- The ends of `equal` and its parts: two integers are equal exactly if they stand at one place of the enum and their
+-- bits are the same, of a sign and of either.
 use mathlib.Core.Path.{_≡_, refl, _∙_, sym, ap, subst}
 use mathlib.Core.Bool.{Bool, true, false, not, _&&_, false≢true}
 use mathlib.Core.List.{List, [], _∷_}
@@ -8,20 +8,19 @@ use native.Mathlib.Omega.{arith}
 use lib.Dec.{T, eqb, eqb-refl}
 use lib.Ieee.Bits.{is-true}
 use lib.IntN.{ℤ, pos, negsuc}
-use mir.Syntax.{Sign, signed, unsigned, Width, w8, w16, w32, w64, w128}
+use mir.Syntax.{Sign, signed, unsigned, Width, w128}
 use mir.Val.{bits, hbits, bytes, ofZ, hasKey}
 use mir.ValLaws.{pow-bits, toZ-fits, ofZ-toZ, eqW→eq}
 use borrow.Author.Needs.{needs}
 use borrow.Author.Tests.{lt-ltb, ltb-true, eq-eqb, ne-eqb, eqb-true, eqb-false}
-use denote.Enum.Declared
 use types.Run.{OneOf, miss}
 use Rattle.types.specs.Choice.{pick}
 use Rattle.types.specs.declared.Integer.{Integer}
 use Rattle.types.specs.declared.Integer.the-variants as I
 use Rattle.types.specs.declared.Wide.{Wide}
-use Rattle.types.proofs.Integer as Made
 use Rattle.types.specs.Values.{value, joined, words}
 use Rattle.cast.specs.Variants.{sign, width, inRange, sameSign, sameValue, equalIntegers, equalOf}
+use Rattle.cast.proofs.Places.{every, tag, place, placed}
 use Rattle.cast.proofs.Words.{joined-fits, words-joined}
 use Rattle.cast.proofs.Ranges.{fits-signed, fits-unsigned}
 
@@ -63,19 +62,22 @@ same-self : (s : Sign) → sameSign s s ≡ true
 same-self signed = refl
 same-self unsigned = refl
 
-module _ (s : Sign) (a b y z : Integer) (p : a ≡ y) (q : b ≡ z) (u : sign y ≡ s) (v : sign z ≡ s) (e : width y ≡ width z) where
+module _ (s : Sign) (a b y z : Integer) (p : a ≡ y) (q : b ≡ z)
+    (u : sign y ≡ s) (v : sign z ≡ s) (e : width y ≡ width z) where
   same-integers : sameValue (value y) (value z) ≡ equalOf s a b
   unfolding equalOf equalIntegers
   same-integers =
-      rw (p, q) (simp (u, v, e, same-self s, is-true (eqb (bytes (width z)) (bytes (width z))) (eqb-refl (bytes (width z)))))
+      let n = bytes (width z) in
+      rw (p, q) (simp (u, v, e, same-self s, is-true (eqb n n) (eqb-refl n)))
 
-  pub same-variant : (r : Bool) → inRange (sign y) (width y) (value y) ≡ true → inRange (sign z) (width z) (value z) ≡ true →
-      r ≡ eqb (ofZ (width y) (value y)) (ofZ (width z) (value z)) → r ≡ equalOf s a b
+  pub same-variant : (r : Bool) → inRange (sign y) (width y) (value y) ≡ true →
+      inRange (sign z) (width z) (value z) ≡ true → r ≡ eqb (ofZ (width y) (value y)) (ofZ (width z) (value z)) → r ≡ equalOf s a b
   same-variant r h k t =
       t ∙ rw e (same-bits s (width z) (value y) (value z) (rw (u, e) at h) (rw v at k)) ∙ same-integers
 
 -- two words: both words are the same
-module _ (a b : Integer) (p q : Wide) (i : p .lo < 2 ^ 64) (h : p .hi < 2 ^ 64) (j : q .lo < 2 ^ 64) (k : q .hi < 2 ^ 64) where
+module _ (a b : Integer) (p q : Wide) (i : p .lo < 2 ^ 64) (h : p .hi < 2 ^ 64)
+    (j : q .lo < 2 ^ 64) (k : q .hi < 2 ^ 64) where
   same-joined : (eqb (p .hi) (q .hi) && eqb (p .lo) (q .lo)) ≡ eqb (joined p) (joined q)
   same-joined = by (eqb (p .hi) (q .hi)) (eqb (p .lo) (q .lo)) refl refl
     where
@@ -107,34 +109,6 @@ module _ (a b : Integer) (p q : Wide) (i : p .lo < 2 ^ 64) (h : p .hi < 2 ^ 64) 
 
 -- ---- two integers of different variants
 
--- the place of a variant in the enum
-abbrev tag : Integer → ℕ
-tag = Declared.tagOf Made.the-type
-
-abbrev place : Sign → Width → ℕ
-place signed w8 = 0
-place signed w16 = 1
-place signed w32 = 2
-place signed w64 = 3
-place signed w128 = 4
-place unsigned w8 = 5
-place unsigned w16 = 6
-place unsigned w32 = 7
-place unsigned w64 = 8
-place unsigned w128 = 9
-
-placed : (x : Integer) → tag x ≡ place (sign x) (width x)
-placed (I.I8 v) = refl
-placed (I.I16 v) = refl
-placed (I.I32 v) = refl
-placed (I.I64 v) = refl
-placed (I.I128 v) = refl
-placed (I.U8 v) = refl
-placed (I.U16 v) = refl
-placed (I.U32 v) = refl
-placed (I.U64 v) = refl
-placed (I.U128 v) = refl
-
 -- every place but k, in the enum's order
 abbrev without : ℕ → List ℕ → List ℕ
 without k [] = []
@@ -153,12 +127,11 @@ different : (a b : Integer) → (tag a ≡ tag b → ⊥) → false ≡ equalInt
 unfolding equalIntegers
 different a b d = by (sameSign (sign a) (sign b)) (eqb (bytes (width a)) (bytes (width b))) refl refl
   where
-    by : (t u : Bool) → sameSign (sign a) (sign b) ≡ t → eqb (bytes (width a)) (bytes (width b)) ≡ u → false ≡ (t && u && sameValue (value a) (value b))
-    by true true p q = absurd (d (placed a ∙ ap (λ (s : Sign). place s (width a)) (same-sign (sign a) (sign b) p) ∙ ap (place (sign b)) (eqW→eq (width a) (width b) (yes (eqb (bytes (width a)) (bytes (width b))) q)) ∙ sym (placed b)))
-      where
-        yes : (t : Bool) → t ≡ true → T t
-        yes true h = tt
-        yes false h = absurd (false≢true h)
+    by : (t u : Bool) → sameSign (sign a) (sign b) ≡ t → eqb (bytes (width a)) (bytes (width b)) ≡ u →
+        false ≡ (t && u && sameValue (value a) (value b))
+    by true true p q =
+        let e = eqW→eq (width a) (width b) (rw q tt) in
+        absurd (d (placed a ∙ rw (same-sign (sign a) (sign b) p, e) (sym (placed b))))
     by true false p q = refl
     by false u p q = refl
 
@@ -181,24 +154,20 @@ abbrev placesOther : Sign → List ℕ
 placesOther signed = 5 ∷ 6 ∷ 7 ∷ 8 ∷ 9 ∷ []
 placesOther unsigned = 0 ∷ 1 ∷ 2 ∷ 3 ∷ 4 ∷ []
 
-apart-places : (w : Width) →
-    T (not (hasKey (placesOther signed) (place signed w))) × T (not (hasKey (placesOther unsigned) (place unsigned w)))
-apart-places w8 = (tt, tt)
-apart-places w16 = (tt, tt)
-apart-places w32 = (tt, tt)
-apart-places w64 = (tt, tt)
-apart-places w128 = (tt, tt)
-
 not-same : (s u : Sign) (w : Width) → OneOf (placesOther s) (place u w) → false ≡ sameSign u s
-not-same signed signed w o = absurd (miss (placesOther signed) (place signed w) (apart-places w .0) o)
 not-same signed unsigned w o = refl
 not-same unsigned signed w o = refl
-not-same unsigned unsigned w o = absurd (miss (placesOther unsigned) (place unsigned w) (apart-places w .1) o)
+not-same signed signed w o =
+    let t = every (λ (v : Width). not (hasKey (placesOther signed) (place signed v))) tt w in
+    absurd (miss (placesOther signed) (place signed w) t o)
+not-same unsigned unsigned w o =
+    let t = every (λ (v : Width). not (hasKey (placesOther unsigned) (place unsigned v))) tt w in
+    absurd (miss (placesOther unsigned) (place unsigned w) t o)
 
 pub other-sign : (s : Sign) (a b : Integer) → OneOf (placesOther s) (tag a) → false ≡ equalOf s a b
 unfolding equalOf
 other-sign s a b o =
-    ap (λ (t : Bool). t && equalIntegers a b) (not-same s (sign a) (width a) (subst (OneOf (placesOther s)) (placed a) o))
+    ap (λ (t : Bool). t && equalIntegers a b) (not-same s (sign a) (width a) (rw (placed a) at o))
 
 pub ruleset variant-ends = (same-variant, words-signed, words-unsigned, other-variant, other-sign, lt-ltb, needs)
 

@@ -1,7 +1,7 @@
--- The ends of the casts to a float: what `as_i32` or `as_i64` gave, and whether the number lies below, inside or above the ends
--- of the format's whole numbers.
+-- The ends of the casts to a float: what `as_i32` or `as_i64` gave, and whether the number lies below, inside or above
+-- the ends of the format's whole numbers.
 use mathlib.Core.Path.{_≡_, _∙_, sym, ap}
-use mathlib.Core.Bool.{Bool, true, false}
+use mathlib.Core.Bool.{true, false}
 use Prim.Native.Nat.{ℕ}
 use borrow.Author.Needs.{needs}
 use lib.Dec.{ltb}

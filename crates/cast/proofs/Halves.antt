@@ -1,5 +1,5 @@
--- The ends of `From`: what the code does, by halves of a width, picks the variant that the definition finds among all the
--- smaller ones. Rests on the laws of ranges: what half a width does not hold, no smaller width of that sign holds.
+-- The ends of `From`: what the code does, by halves of a width, picks the variant that the definition finds among all
+-- the smaller ones. Rests on the laws of ranges: what half a width does not hold, no smaller width of that sign holds.
 use mathlib.Core.Path.{_≡_, refl, _∙_, sym, ap}
 use mathlib.Core.Bool.{Bool, true, false, false≢true}
 use Prim.Native.Nat.{ℕ, suc, _+_, _-_, _*_, _^_, _≤_, _<_}
@@ -46,27 +46,48 @@ from-half unsigned w64 z h = simp h
 from-half unsigned w128 z h = simp h
 
 -- half the width holds it unsigned only
-pub from-crossed : (w : Width) → T (ltb (bytes (half w)) (bytes w)) → (z : ℤ) → inRange signed (half w) z ≡ false → inRange unsigned (half w) z ≡ true → from unsigned (half w) z ≡ from signed w z
+pub from-crossed : (w : Width) → T (ltb (bytes (half w)) (bytes w)) → (z : ℤ) → inRange signed (half w) z ≡ false →
+    inRange unsigned (half w) z ≡ true → from unsigned (half w) z ≡ from signed w z
 unfolding from
 from-crossed w8 n z h k = absurd n
 from-crossed w16 n z h k = simp (h, k)
 from-crossed w32 n z h k = simp (narrower signed w8 w16 tt z h, h, k)
 from-crossed w64 n z h k = simp (narrower signed w8 w32 tt z h, narrower signed w16 w32 tt z h, h, k)
-from-crossed w128 n z h k = simp (narrower signed w8 w64 tt z h, narrower signed w16 w64 tt z h, narrower signed w32 w64 tt z h, h, k)
+from-crossed w128 n z h k =
+    simp (narrower signed w8 w64 tt z h, narrower signed w16 w64 tt z h, narrower signed w32 w64 tt z h, h, k)
 
 -- half the width does not hold it
-pub from-own : (s : Sign) (w : Width) → T (ltb (bytes (half w)) (bytes w)) → (z : ℤ) → inRange s (half w) z ≡ false → inRange unsigned (half w) z ≡ false → variant s w z ≡ from s w z
+pub from-own : (s : Sign) (w : Width) → T (ltb (bytes (half w)) (bytes w)) → (z : ℤ) → inRange s (half w) z ≡ false →
+    inRange unsigned (half w) z ≡ false → variant s w z ≡ from s w z
 unfolding from
 from-own s w8 n z h k = absurd n
 from-own signed w16 n z h k = simp (h, k)
 from-own signed w32 n z h k = simp (narrower signed w8 w16 tt z h, narrower unsigned w8 w16 tt z k, h, k)
-from-own signed w64 n z h k = simp (narrower signed w8 w32 tt z h, narrower unsigned w8 w32 tt z k, narrower signed w16 w32 tt z h, narrower unsigned w16 w32 tt z k, h, k)
+from-own signed w64 n z h k =
+    simp (
+      narrower signed w8 w32 tt z h,
+      narrower unsigned w8 w32 tt z k,
+      narrower signed w16 w32 tt z h,
+      narrower unsigned w16 w32 tt z k,
+      h,
+      k,
+    )
 from-own signed w128 n z h k =
-    simp (narrower signed w8 w64 tt z h, narrower unsigned w8 w64 tt z k, narrower signed w16 w64 tt z h, narrower unsigned w16 w64 tt z k, narrower signed w32 w64 tt z h, narrower unsigned w32 w64 tt z k, h, k)
+    simp (
+      narrower signed w8 w64 tt z h,
+      narrower unsigned w8 w64 tt z k,
+      narrower signed w16 w64 tt z h,
+      narrower unsigned w16 w64 tt z k,
+      narrower signed w32 w64 tt z h,
+      narrower unsigned w32 w64 tt z k,
+      h,
+      k,
+    )
 from-own unsigned w16 n z h k = simp k
 from-own unsigned w32 n z h k = simp (narrower unsigned w8 w16 tt z k, k)
 from-own unsigned w64 n z h k = simp (narrower unsigned w8 w32 tt z k, narrower unsigned w16 w32 tt z k, k)
-from-own unsigned w128 n z h k = simp (narrower unsigned w8 w64 tt z k, narrower unsigned w16 w64 tt z k, narrower unsigned w32 w64 tt z k, k)
+from-own unsigned w128 n z h k =
+    simp (narrower unsigned w8 w64 tt z k, narrower unsigned w16 w64 tt z k, narrower unsigned w32 w64 tt z k, k)
 
 -- ---- the narrowest: there is no smaller width
 pub narrowest-signed : (z : ℤ) → SFits w8 z → I.I8 (toZ w8 (ofZ w8 z)) ≡ from signed w8 z
@@ -122,7 +143,8 @@ module _ (w : Width) (z : ℤ) (f : SFits w z) (n : T (ltb (bytes (half w)) (byt
       r ≡ variant signed w (toZ w (ofZ w z)) → r ≡ from signed w z
   signed-under h q =
       let k = rw (toZ-ofZ w z f) at h in
-      q ∙ rw (toZ-ofZ w z f) (from-own signed w n z (under _ (pow-pos (hbits (half w))) z k) (under-unsigned (half w) _ z k))
+      let i = under (2 ^ hbits (half w)) (pow-pos (hbits (half w))) z k in
+      q ∙ rw (toZ-ofZ w z f) (from-own signed w n z i (under-unsigned (half w) _ z k))
 
   -- inside
   pub signed-inside : ltZ (toZ w (ofZ w z)) (negsuc (2 ^ hbits (half w) - 1)) ≡ false →
@@ -144,8 +166,8 @@ module _ (w : Width) (z : ℤ) (f : SFits w z) (n : T (ltb (bytes (half w)) (byt
         let i = in-unsigned (half w) _ z (rw (toZ-ofZ w z f) at h) (rw (toZ-ofZ w z f) at l) in
         q ∙ rw (toZ-ofZ w z f, is-natural (half w) z i) (from-crossed w n z not-inside i)
 
-    pub signed-over : leZ (toZ w (ofZ w z)) (pos (2 ^ bits (half w) - 1)) ≡ false → r ≡ variant signed w (toZ w (ofZ w z)) →
-        r ≡ from signed w z
+    pub signed-over : leZ (toZ w (ofZ w z)) (pos (2 ^ bits (half w) - 1)) ≡ false →
+        r ≡ variant signed w (toZ w (ofZ w z)) → r ≡ from signed w z
     signed-over l q =
         q ∙ rw (toZ-ofZ w z f) (from-own signed w n z not-inside (over-unsigned (half w) z (rw (toZ-ofZ w z f) at l)))
 
@@ -168,10 +190,11 @@ pub ruleset from-ends = (
 
 -- a value below -2 ^ 63, or from 2 ^ 64 on, has no narrower variant
 far-negative : (z : ℤ) (m : ℕ) → z ≡ negsuc m → 2 ^ 63 ≤ m → variant signed w128 z ≡ from signed w128 z
-far-negative z m e h = from-own signed w128 tt z (ap (inRange signed w64) e ∙ le-ltb m (2 ^ 63) h) (ap (inRange unsigned w64) e)
+far-negative z m e h = rw e (from-own signed w128 tt (negsuc m) (le-ltb m (2 ^ 63) h) refl)
 
 far-positive : (z : ℤ) (m : ℕ) → z ≡ pos m → 2 ^ 64 ≤ m → variant signed w128 z ≡ from signed w128 z
-far-positive z m e h = from-own signed w128 tt z (ap (inRange signed w64) e ∙ le-ltb m (2 ^ 63) (le-trans half-of h)) (ap (inRange unsigned w64) e ∙ le-ltb m (2 ^ 64) h)
+far-positive z m e h =
+    rw e (from-own signed w128 tt (pos m) (le-ltb m (2 ^ 63) (le-trans half-of h)) (le-ltb m (2 ^ 64) h))
   where
     half-of : 2 ^ 63 ≤ 2 ^ 64
     half-of = omega arith
@@ -222,17 +245,18 @@ module _ (p : Wide) (h : (p .lo < 2 ^ 64) × (p .hi < 2 ^ 64)) (r : Integer) whe
     zero-value : toZ w128 (joined p) ≡ pos (p .lo)
     zero-value = toZ-pos w128 (joined p) (low-half p h (omega arith)) ∙ ap pos (low-only p e)
 
-    pub wide-positive : p .lo ≤ 2 ^ 63 - 1 → r ≡ from signed w64 (toZ w64 (p .lo)) → r ≡ from signed w128 (toZ w128 (joined p))
+    pub wide-positive : p .lo ≤ 2 ^ 63 - 1 → r ≡ from signed w64 (toZ w64 (p .lo)) →
+        r ≡ from signed w128 (toZ w128 (joined p))
     wide-positive l q =
         let k = low-half-in (p .lo) l in
-        q ∙ ap (from signed w64) (toZ-pos w64 (p .lo) k) ∙ from-half signed w128 (pos (p .lo)) (lt-ltb (p .lo) (2 ^ 63) k)
-        ∙ ap (from signed w128) (sym zero-value)
+        q ∙ ap (from signed w64) (toZ-pos w64 (p .lo) k)
+        ∙ from-half signed w128 (pos (p .lo)) (lt-ltb (p .lo) (2 ^ 63) k) ∙ ap (from signed w128) (sym zero-value)
 
     pub wide-positive-high : 2 ^ 63 - 1 < p .lo → r ≡ from unsigned w64 (pos (p .lo)) →
         r ≡ from signed w128 (toZ w128 (joined p))
     wide-positive-high l q =
-        q ∙ from-crossed w128 tt (pos (p .lo)) (le-ltb (p .lo) (2 ^ 63) (low-half-out (p .lo) l)) (lt-ltb (p .lo) (2 ^ 64) (h .0))
-        ∙ ap (from signed w128) (sym zero-value)
+        let k = le-ltb (p .lo) (2 ^ 63) (low-half-out (p .lo) l) in
+        q ∙ from-crossed w128 tt (pos (p .lo)) k (lt-ltb (p .lo) (2 ^ 64) (h .0)) ∙ ap (from signed w128) (sym zero-value)
 
   own-words : variant signed w128 (toZ w128 (joined p)) ≡ from signed w128 (toZ w128 (joined p)) → r ≡ I.I128 p →
       r ≡ from signed w128 (toZ w128 (joined p))

@@ -1,5 +1,6 @@
 pub mod Words
 pub mod Ranges
+pub mod Places
 pub mod Arms
 pub mod Wides
 pub mod Zeros

@@ -1,4 +1,4 @@
--- Ranges by width, and the variant that holds a value of its range: its sign, its width and its value are those it was made of.
+-- Ranges by width, and the variant that holds a value of its range: its width and its value are those it was made of.
 use mathlib.Core.Path.{_≡_, refl, _∙_, sym, ap}
 use mathlib.Core.Bool.{Bool, true, false, false≢true}
 use Prim.Native.Nat.{ℕ, _*_, _^_, _≤_}
@@ -14,7 +14,7 @@ use mir.ValLaws.{toZ-ofZ, bits-suc}
 use borrow.Author.Tests.{lt-ltb, ltb-true}
 use Rattle.types.specs.Values.{value}
 use Rattle.types.proofs.Values.{joined-words}
-use Rattle.cast.specs.Variants.{sign, width, variant, inRange}
+use Rattle.cast.specs.Variants.{width, variant, inRange}
 
 pub signed-fits : (w : Width) (z : ℤ) → inRange signed w z ≡ true → SFits w z
 signed-fits w z h = record { sfits = ltb-true (mag z) (2 ^ hbits w) h }
@@ -50,18 +50,21 @@ raised : (n i j : ℕ) → i ≤ j → ltb n (2 ^ i) ≡ true → ltb n (2 ^ j) 
 raised n i j h t = lt-ltb n (2 ^ j) (lt-of-lt-of-le (ltb-true n (2 ^ i) t) (pow-mono h))
 
 -- what a width holds, a wider one of the same sign holds
-pub wider : (s : Sign) (v w : Width) → T (leb (bytes v) (bytes w)) → (z : ℤ) → inRange s v z ≡ true → inRange s w z ≡ true
+pub wider : (s : Sign) (v w : Width) → T (leb (bytes v) (bytes w)) → (z : ℤ) → inRange s v z ≡ true →
+    inRange s w z ≡ true
 wider signed v w t z h = raised (mag z) (hbits v) (hbits w) (hbits-le v w t) h
 wider unsigned v w t (pos n) h = raised n (bits v) (bits w) (bits-le v w t) h
 wider unsigned v w t (negsuc n) h = h
 
 -- what an unsigned width holds, every wider signed one holds
-pub wider-signed : (v w : Width) → T (ltb (bytes v) (bytes w)) → (z : ℤ) → inRange unsigned v z ≡ true → inRange signed w z ≡ true
+pub wider-signed : (v w : Width) → T (ltb (bytes v) (bytes w)) → (z : ℤ) → inRange unsigned v z ≡ true →
+    inRange signed w z ≡ true
 wider-signed v w t (pos n) h = raised n (bits v) (hbits w) (bits-hbits v w t) h
 wider-signed v w t (negsuc n) h = absurd (false≢true h)
 
 -- what a signed width holds from 0 up, the unsigned width and every wider one hold
-pub wider-unsigned : (v w : Width) → T (leb (bytes v) (bytes w)) → (n : ℕ) → inRange signed v (pos n) ≡ true → inRange unsigned w (pos n) ≡ true
+pub wider-unsigned : (v w : Width) → T (leb (bytes v) (bytes w)) → (n : ℕ) → inRange signed v (pos n) ≡ true →
+    inRange unsigned w (pos n) ≡ true
 wider-unsigned v w t n h = raised n (hbits v) (bits w) (hbits-bits v w t) h
 
 -- a value of an unsigned range is its magnitude, which fits the machine's number
@@ -74,7 +77,8 @@ natural-fits w (pos n) h = record { fits = ltb-true n (2 ^ bits w) h }
 natural-fits w (negsuc n) h = absurd (false≢true h)
 
 -- and what a width does not hold, no narrower one of the same sign holds
-pub narrower : (s : Sign) (v w : Width) → T (leb (bytes v) (bytes w)) → (z : ℤ) → inRange s w z ≡ false → inRange s v z ≡ false
+pub narrower : (s : Sign) (v w : Width) → T (leb (bytes v) (bytes w)) → (z : ℤ) → inRange s w z ≡ false →
+    inRange s v z ≡ false
 narrower s v w t z h = by (inRange s v z) refl
   where
     by : (b : Bool) → inRange s v z ≡ b → inRange s v z ≡ false
@@ -82,18 +86,6 @@ narrower s v w t z h = by (inRange s v z) refl
     by false e = e
 
 -- ---- the variant that holds a value
-
-pub variant-sign : (s : Sign) (w : Width) (z : ℤ) → sign (variant s w z) ≡ s
-variant-sign signed w8 z = refl
-variant-sign signed w16 z = refl
-variant-sign signed w32 z = refl
-variant-sign signed w64 z = refl
-variant-sign signed w128 z = refl
-variant-sign unsigned w8 z = refl
-variant-sign unsigned w16 z = refl
-variant-sign unsigned w32 z = refl
-variant-sign unsigned w64 z = refl
-variant-sign unsigned w128 z = refl
 
 pub variant-width : (s : Sign) (w : Width) (z : ℤ) → width (variant s w z) ≡ w
 variant-width signed w8 z = refl

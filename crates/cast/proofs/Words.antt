@@ -1,4 +1,5 @@
--- Two words and the number that they stand for are each other's inverse. Rests on the laws of digits, at the base 2 ^ 64.
+-- Two words and the number that they stand for are each other's inverse. Rests on the laws of digits, at the base
+-- 2 ^ 64.
 use mathlib.Core.Path.{_≡_, refl, _∙_, sym, ap}
 use Prim.Native.Nat.{ℕ, suc, _+_, _-_, _*_, _^_, _≤_, _<_}
 use native.Mathlib.Nat.{mod-eq-of-lt, div-eq-of-lt, le-trans, mul-le-mul-right, le-add-right, suc-mul}
@@ -59,5 +60,6 @@ ones-below m q n e h = let k : m * m ≡ q * m + m = ap (λ (x : ℕ). x * m) e 
 pub negative-words : (n : ℕ) → n < 2 ^ 64 → record { lo = 2 ^ 64 - 1 - n; hi = 2 ^ 64 - 1 } ≡ words (2 ^ 128 - suc n)
 negative-words n h =
     let k : 2 ^ 64 - 1 - n < 2 ^ 64 = omega arith in
+    let w : Wide = record { lo = 2 ^ 64 - 1 - n; hi = 2 ^ 64 - 1 } in
     sym (ap words (ones-below (2 ^ 64) (2 ^ 64 - 1) n refl h)
-    ∙ pair _ _ (record { lo = 2 ^ 64 - 1 - n; hi = 2 ^ 64 - 1 }) (digits-mod (2 ^ 64 - 1) k) (digits-div (2 ^ 64 - 1) k))
+    ∙ pair _ _ w (digits-mod (2 ^ 64 - 1) k) (digits-div (2 ^ 64 - 1) k))

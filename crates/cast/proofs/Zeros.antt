@@ -44,8 +44,9 @@ module _ (x : Integer) (p : Wide) (l : p .lo < 2 ^ 64) (h : p .hi < 2 ^ 64) wher
   signed-joined : eqb (joined p) 0 ≡ isZero (I.I128 p)
   signed-joined =
       let f = joined-fits p (l, h) in
+      let z = toZ w128 (joined p) in
       ap (λ (n : ℕ). eqb n 0) (sym (ofZ-toZ w128 (joined p) f))
-      ∙ zero-bits signed w128 (toZ w128 (joined p)) (fits-signed w128 (toZ w128 (joined p)) (toZ-fits w128 (joined p) f))
+      ∙ zero-bits signed w128 z (fits-signed w128 z (toZ-fits w128 (joined p) f))
 
   module _ (z : p .hi ≡ 0) (r : Bool) (k : r ≡ eqb (p .lo) 0) where
     pub low-zero-signed : x ≡ I.I128 p → r ≡ isZero x

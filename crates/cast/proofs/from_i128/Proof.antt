@@ -1,4 +1,5 @@
--- `cast::from_i128` meets its contract: the high word is 0, all ones or neither, and the low word is below its half or not.
+-- `cast::from_i128` meets its contract: the high word is 0, all ones or neither, and the low word is below its half or
+-- not.
 use Rattle.cast.proofs.Halves.{wide-from-ends}
 use Rattle.cast.proofs.from_i128.Statement.{statement}
 use Rattle.cast.proofs.from_i128.Tie as tie
