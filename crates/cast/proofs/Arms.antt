@@ -244,20 +244,11 @@ module _ (x : Integer) (p : Wide) (l : p .lo < 2 ^ 64) (h : p .hi < 2 ^ 64) wher
 pub made : (p q : Wide) → p ≡ q → A.Value p ≡ A.Value q
 made p q e = ap A.Value e
 
-pub ruleset arms = (
-  signed-kept,
-  signed-widened,
-  unsigned-kept,
-  from-zero,
-  negative,
-  through,
-  natural-sign,
-  natural-size,
-  lt-ltb,
-  needs,
-)
+pub ruleset signed-arms = (signed-kept, signed-widened, from-zero, negative, through, natural-sign, natural-size)
 
-pub ruleset cast-arms = (unsigned-widened, below-half, past-half, too-wide, arms)
+pub ruleset cast-arms =
+    (unsigned-kept, unsigned-widened, below-half, past-half, too-wide, signed-arms, lt-ltb, needs)
 
-pub ruleset wide-arms =
-    (unsigned-wide, words-signed, words-unsigned, words-to-signed, words-to-unsigned, made, arms)
+pub ruleset words-arms = (words-signed, words-unsigned, words-to-signed, words-to-unsigned, made)
+
+pub ruleset wide-arms = (unsigned-kept, unsigned-wide, signed-arms, words-arms, lt-ltb, needs)

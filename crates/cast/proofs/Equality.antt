@@ -71,7 +71,8 @@ module _ (s : Sign) (a b y z : Integer) (p : a ≡ y) (q : b ≡ z)
       rw (p, q) (simp (u, v, e, same-self s, is-true (eqb n n) (eqb-refl n)))
 
   pub same-variant : (r : Bool) → inRange (sign y) (width y) (value y) ≡ true →
-      inRange (sign z) (width z) (value z) ≡ true → r ≡ eqb (ofZ (width y) (value y)) (ofZ (width z) (value z)) → r ≡ equalOf s a b
+      inRange (sign z) (width z) (value z) ≡ true →
+      r ≡ eqb (ofZ (width y) (value y)) (ofZ (width z) (value z)) → r ≡ equalOf s a b
   same-variant r h k t =
       t ∙ rw e (same-bits s (width z) (value y) (value z) (rw (u, e) at h) (rw v at k)) ∙ same-integers
 

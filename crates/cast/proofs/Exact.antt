@@ -1,5 +1,6 @@
 -- A whole number from -2 ^ p to 2 ^ p - 1 is a value of the format of p digits: the float that a cast makes of it has
--- its sign and its magnitude exactly, by IEEE 754. Rests on the library's `round-whole`, and on `binary`'s law of units.
+-- its sign and its magnitude exactly, by IEEE 754. Rests on the library's `round-whole`, and on `binary`'s law of
+-- units.
 use mathlib.Core.Path.{_≡_, refl}
 use mathlib.Core.Bool.{Bool, true, false}
 use Prim.Native.Nat.{ℕ, suc, _-_, _*_, _^_}
@@ -33,7 +34,8 @@ unfolding Ieee.ofInt
 whole-exact f (pos n) h = round-whole f false n (le-of-lt (ltb-true n (2 ^ Ieee.prec f) h))
 whole-exact f (negsuc n) h = round-whole f true (suc n) (ltb-true n (2 ^ Ieee.prec f) h)
 
--- ---- in units of 2 ^ -1074: document 01 gives a finite float as "its sign and its magnitude counted in units of 2^-1074"
+-- ---- in units of 2 ^ -1074, as document 01 gives a finite float: "its sign and its magnitude counted in units of
+-- 2^-1074"
 
 -- the float is finite, of the sign s and of u units
 abbrev pub Counted : Ieee.Float → Bool → ℕ → Type 0

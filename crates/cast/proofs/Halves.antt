@@ -171,20 +171,12 @@ module _ (w : Width) (z : ℤ) (f : SFits w z) (n : T (ltb (bytes (half w)) (byt
     signed-over l q =
         q ∙ rw (toZ-ofZ w z f) (from-own signed w n z not-inside (over-unsigned (half w) z (rw (toZ-ofZ w z f) at l)))
 
-pub ruleset from-ends = (
-  narrowest-signed,
-  narrowest-unsigned,
-  unsigned-low,
-  unsigned-high,
-  inside-fits,
-  between-fits,
-  between-sign,
-  signed-under,
-  signed-inside,
-  signed-between,
-  signed-over,
-  needs,
-)
+pub ruleset unsigned-from = (narrowest-unsigned, unsigned-low, unsigned-high, needs)
+
+pub ruleset half-asks = (inside-fits, between-fits, between-sign)
+
+pub ruleset signed-from =
+    (narrowest-signed, signed-under, signed-inside, signed-between, signed-over, half-asks, needs)
 
 -- ---- two words
 
@@ -209,11 +201,8 @@ low-complement m q h l e k = let s = square m q e in let p : h * m ≡ q * m = a
 far-complement : (m q h l : ℕ) → m ≡ suc q → l < m → h < q → m ≤ m * m - suc (h * m + l)
 far-complement m q h l e b k =
     let s = square m q e in
-    let p : h * m + m ≤ q * m = le-trans (eq-le (sym (suc-mul h m))) (mul-le-mul-right m k) in
+    let p : h * m + m ≤ q * m = rw (← suc-mul h m) (mul-le-mul-right m k) in
     omega arith
-  where
-    eq-le : {a b : ℕ} → a ≡ b → a ≤ b
-    eq-le e = omega arith
 
 -- the low word's complement, complemented
 complement-value : (l : ℕ) → l < 2 ^ 64 → 2 ^ 63 ≤ l → toZ w64 (2 ^ 64 - 1 - (2 ^ 64 - 1 - l)) ≡ negsuc (2 ^ 64 - 1 - l)
@@ -256,7 +245,8 @@ module _ (p : Wide) (h : (p .lo < 2 ^ 64) × (p .hi < 2 ^ 64)) (r : Integer) whe
         r ≡ from signed w128 (toZ w128 (joined p))
     wide-positive-high l q =
         let k = le-ltb (p .lo) (2 ^ 63) (low-half-out (p .lo) l) in
-        q ∙ from-crossed w128 tt (pos (p .lo)) k (lt-ltb (p .lo) (2 ^ 64) (h .0)) ∙ ap (from signed w128) (sym zero-value)
+        q ∙ from-crossed w128 tt (pos (p .lo)) k (lt-ltb (p .lo) (2 ^ 64) (h .0))
+        ∙ ap (from signed w128) (sym zero-value)
 
   own-words : variant signed w128 (toZ w128 (joined p)) ≡ from signed w128 (toZ w128 (joined p)) → r ≡ I.I128 p →
       r ≡ from signed w128 (toZ w128 (joined p))

@@ -1,6 +1,6 @@
 -- What `From` makes: an integer of the value it was given, at a variant of the least width that holds the value at all.
--- So a cast of it goes by value: it is refused exactly if the value lies outside the target's range, and otherwise comes
--- out as that value.
+-- So a cast of it goes by value: it is refused exactly if the value lies outside the target's range, and otherwise
+-- comes out as that value.
 use mathlib.Core.Path.{_≡_, refl, _∙_, sym, subst}
 use mathlib.Core.Bool.{Bool, true, false, _&&_, _||_, false≢true}
 use mathlib.Core.Logic.{_⊎_, inl, inr}

@@ -68,17 +68,8 @@ module _ (z : ℤ) (h : SFits w64 z) where
         record { lo = 2 ^ 64 - 1 - natAbs (toZ w64 (2 ^ 64 - 1 - ofZ w64 z)); hi = 2 ^ 64 - 1 } ≡ wideOf z
     complement-words = rw complement-is (negative-words (mag z) (half-full w64 (h .sfits)) ∙ ap wideOf (sym its-form))
 
-pub ruleset wide-ends = (
-  high-same,
-  high-differs,
-  top-clear,
-  top-set,
-  natural-sign,
-  natural-size,
-  natural-words,
-  complement-sign,
-  complement-size,
-  complement-words,
-  small-words,
-  needs,
-)
+pub ruleset word-tests = (high-same, high-differs, top-clear, top-set, needs)
+
+pub ruleset complements = (complement-sign, complement-size, complement-words)
+
+pub ruleset wide-of-ends = (natural-sign, natural-size, natural-words, complements, small-words, needs)

@@ -1,5 +1,5 @@
--- `cast::equal_signed` meets its contract: two of one variant by their bits, two of different variants by their places
--- in the enum.
+-- `cast::equal_signed` meets its contract: two of one variant by their bits, two of different variants by their
+-- places in the enum.
 use Rattle.cast.proofs.Equality.{variant-ends}
 use Rattle.cast.proofs.equal_signed.Statement.{statement}
 use Rattle.cast.proofs.equal_signed.Tie as tie

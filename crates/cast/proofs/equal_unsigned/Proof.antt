@@ -1,5 +1,5 @@
--- `cast::equal_unsigned` meets its contract: two of one variant by their bits, two of different variants by their places
--- in the enum.
+-- `cast::equal_unsigned` meets its contract: two of one variant by their bits, two of different variants by their
+-- places in the enum.
 use Rattle.cast.proofs.Equality.{variant-ends}
 use Rattle.cast.proofs.equal_unsigned.Statement.{statement}
 use Rattle.cast.proofs.equal_unsigned.Tie as tie
