@@ -1,7 +1,7 @@
 -- The arms of the casts, each kind of arm once: of an integer x that the code found to be the variant y, by y's sign,
 -- its width and its value. Rests on the laws of ranges.
 use mathlib.Core.Path.{_≡_, refl, _∙_, sym, ap}
-use mathlib.Core.Bool.{Bool, true, false, not, _&&_, _||_, false≢true}
+use mathlib.Core.Bool.{Bool, true, false, not, _||_, and-false, false≢true}
 use mathlib.Core.List.{List, [], _∷_}
 use Prim.Native.Nat.{ℕ, _-_, _^_, _≤_, _<_}
 use native.Mathlib.Nat.{le-of-lt, le-refl}
@@ -97,11 +97,7 @@ is-negative (negsuc k) t = refl
 
 -- the machine's number that a value is cast to on its way into a width: two words are made of 64 bits
 abbrev machine : Width → Width
-machine w8 = w8
-machine w16 = w16
-machine w32 = w32
-machine w64 = w64
-machine w128 = w64
+machine w = pick (leb (bytes w) 8) w w64
 
 module _ {X : Type 0} (w : Width) (f : ℤ → X) (g : Refusal → X) (x y : Integer) (e : x ≡ y) where
   takes : (t : Sign) (r : X) → T (leb (bytes (width y)) (bytes w)) → inRange t w (value y) ≡ true → r ≡ f (value y) →
@@ -111,14 +107,7 @@ module _ {X : Type 0} (w : Width) (f : ℤ → X) (g : Refusal → X) (x y : Int
 
   refuses : (t : Sign) (r : X) → inRange t w (value y) ≡ false → r ≡ g R.ImpreciseCastWouldLoseData → r ≡ cast t w f g x
   unfolding cast
-  refuses t r i q = rw e (q ∙ by (leb (bytes (width y)) (bytes w)) (inRange t w (value y)) i)
-    where
-      lost : X
-      lost = g R.ImpreciseCastWouldLoseData
-
-      by : (a b : Bool) → b ≡ false → lost ≡ pick (a && b) (f (value y)) lost
-      by true b i = simp i
-      by false b i = refl
+  refuses t r i q = rw e (q ∙ simp (i, and-false (leb (bytes (width y)) (bytes w))))
 
   -- of a signed variant
   module _ (i : inRange (sign y) (width y) (value y) ≡ true) (s : sign y ≡ signed) where
@@ -191,54 +180,40 @@ module _ {X : Type 0} (w : Width) (f : ℤ → X) (g : Refusal → X) (x y : Int
 
 -- ---- the arms of two words
 
-abbrev takenWide : ℤ → AsWide
-takenWide z = A.Value (wideOf z)
-
 module _ (x : Integer) (p : Wide) (l : p .lo < 2 ^ 64) (h : p .hi < 2 ^ 64) where
-  signed-in : inRange signed w128 (toZ w128 (joined p)) ≡ true
-  signed-in = fits-signed w128 (toZ w128 (joined p)) (toZ-fits w128 (joined p) (joined-fits p (l, h)))
-
-  unsigned-in : inRange unsigned w128 (pos (joined p)) ≡ true
-  unsigned-in = fits-unsigned w128 (joined p) (joined-fits p (l, h))
+  of-words : (t : Sign) (y : Integer) → x ≡ y → width y ≡ w128 → wideOf (value y) ≡ p → (b : Bool) →
+      inRange t w128 (value y) ≡ b →
+      pick b (A.Value p) (A.Refused R.ImpreciseCastWouldLoseData) ≡ cast t w128 (λ z. A.Value (wideOf z)) A.Refused x
+  unfolding cast
+  of-words t y e n v b i = rw e (simp (n, v, i))
 
   -- of one sign
   pub words-signed : x ≡ I.I128 p → A.Value p ≡ asI128 x
   words-signed e =
-      takes w128 takenWide A.Refused x (I.I128 p) e signed (A.Value p) tt signed-in
-      (ap A.Value (sym (wide-back p (l, h))))
+      of-words signed (I.I128 p) e refl (wide-back p (l, h)) true
+      (fits-signed w128 (toZ w128 (joined p)) (toZ-fits w128 (joined p) (joined-fits p (l, h))))
+
+  unsigned-in : inRange unsigned w128 (pos (joined p)) ≡ true
+  unsigned-in = fits-unsigned w128 (joined p) (joined-fits p (l, h))
 
   pub words-unsigned : x ≡ I.U128 p → A.Value p ≡ asU128 x
-  words-unsigned e =
-      takes w128 takenWide A.Refused x (I.U128 p) e unsigned (A.Value p) tt unsigned-in
-      (ap A.Value (sym (words-joined p (l, h))))
+  words-unsigned e = of-words unsigned (I.U128 p) e refl (words-joined p (l, h)) true unsigned-in
 
   -- from one sign to the other, by the high word's top bit
-  pub words-to-signed : x ≡ I.U128 p → (r : AsWide) → r ≡ keptWords p → r ≡ asI128 x
-  words-to-signed e r k = k ∙ by (ltb (p .hi) (2 ^ 63)) refl
-    where
-      by : (b : Bool) → ltb (p .hi) (2 ^ 63) ≡ b →
-          pick b (A.Value p) (A.Refused R.ImpreciseCastWouldLoseData) ≡ asI128 x
-      by true t =
-          takes w128 takenWide A.Refused x (I.U128 p) e signed (A.Value p) tt
-          (lt-ltb (joined p) (2 ^ 127) (low-half p (l, h) (ltb-true (p .hi) (2 ^ 63) t)))
-          (ap A.Value (sym (words-joined p (l, h))))
-      by false t =
-          refuses w128 takenWide A.Refused x (I.U128 p) e signed _
-          (le-ltb (joined p) (2 ^ 127) (high-half p (ltb-false (p .hi) (2 ^ 63) t))) refl
+  module _ (r : AsWide) (k : r ≡ keptWords p) where
+    pub words-to-signed : x ≡ I.U128 p → r ≡ asI128 x
+    words-to-signed e = k ∙ of-words signed (I.U128 p) e refl (words-joined p (l, h)) _ (by (ltb (p .hi) (2 ^ 63)) refl)
+      where
+        by : (b : Bool) → ltb (p .hi) (2 ^ 63) ≡ b → ltb (joined p) (2 ^ 127) ≡ b
+        by true t = lt-ltb (joined p) (2 ^ 127) (low-half p (l, h) (ltb-true (p .hi) (2 ^ 63) t))
+        by false t = le-ltb (joined p) (2 ^ 127) (high-half p (ltb-false (p .hi) (2 ^ 63) t))
 
-  pub words-to-unsigned : x ≡ I.I128 p → (r : AsWide) → r ≡ keptWords p → r ≡ asU128 x
-  words-to-unsigned e r k = k ∙ by (ltb (p .hi) (2 ^ 63)) refl
-    where
-      by : (b : Bool) → ltb (p .hi) (2 ^ 63) ≡ b →
-          pick b (A.Value p) (A.Refused R.ImpreciseCastWouldLoseData) ≡ asU128 x
-      by true t =
-          let k = low-half p (l, h) (ltb-true (p .hi) (2 ^ 63) t) in
-          takes w128 takenWide A.Refused x (I.I128 p) e unsigned (A.Value p) tt
-          (ap (inRange unsigned w128) (toZ-pos w128 (joined p) k) ∙ unsigned-in)
-          (ap A.Value (sym (wide-back p (l, h))))
-      by false t =
-          refuses w128 takenWide A.Refused x (I.I128 p) e unsigned _
-          (ap (inRange unsigned w128) (high-negative p (ltb-false (p .hi) (2 ^ 63) t))) refl
+    pub words-to-unsigned : x ≡ I.I128 p → r ≡ asU128 x
+    words-to-unsigned e = k ∙ of-words unsigned (I.I128 p) e refl (wide-back p (l, h)) _ (by (ltb (p .hi) (2 ^ 63)) refl)
+      where
+        by : (b : Bool) → ltb (p .hi) (2 ^ 63) ≡ b → inRange unsigned w128 (toZ w128 (joined p)) ≡ b
+        by true t = rw (toZ-pos w128 (joined p) (low-half p (l, h) (ltb-true (p .hi) (2 ^ 63) t))) unsigned-in
+        by false t = ap (inRange unsigned w128) (high-negative p (ltb-false (p .hi) (2 ^ 63) t))
 
 -- two words that a call made
 pub made : (p q : Wide) → p ≡ q → A.Value p ≡ A.Value q

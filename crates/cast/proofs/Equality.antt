@@ -1,7 +1,7 @@
 -- The ends of `equal` and its parts: two integers are equal exactly if they stand at one place of the enum and their
 -- bits are the same, of a sign and of either.
 use mathlib.Core.Path.{_≡_, refl, _∙_, sym, ap, subst}
-use mathlib.Core.Bool.{Bool, true, false, not, _&&_, false≢true}
+use mathlib.Core.Bool.{Bool, true, false, not, _&&_, and-false, false≢true}
 use mathlib.Core.List.{List, [], _∷_}
 use Prim.Native.Nat.{ℕ, suc, _-_, _*_, _^_, _<_}
 use native.Mathlib.Omega.{arith}
@@ -141,13 +141,9 @@ pub other-variant : (s : Sign) (a b y : Integer) → a ≡ y → OneOf (others (
     T (not (hasKey (others (tag y)) (tag y))) → false ≡ equalOf s a b
 unfolding equalOf
 other-variant s a b y e o n =
-    by (sameSign (sign a) s)
+    sym (and-false (sameSign (sign a) s))
     ∙ ap (λ (t : Bool). sameSign (sign a) s && t)
     (different a b (λ q. miss (others (tag y)) (tag y) n (subst (OneOf (others (tag y))) (sym q ∙ ap tag e) o)))
-  where
-    by : (t : Bool) → false ≡ (t && false)
-    by true = refl
-    by false = refl
 
 -- ---- an integer of the other sign
 

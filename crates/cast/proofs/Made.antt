@@ -2,10 +2,11 @@
 -- So a cast of it goes by value: it is refused exactly if the value lies outside the target's range, and otherwise
 -- comes out as that value.
 use mathlib.Core.Path.{_≡_, refl, _∙_, sym, subst}
-use mathlib.Core.Bool.{Bool, true, false, _&&_, _||_, false≢true}
+use mathlib.Core.Bool.{Bool, true, false, _&&_, _||_, and-false, false≢true}
 use mathlib.Core.Logic.{_⊎_, inl, inr}
 use native.Mathlib.Nat.{le-refl}
 use lib.Dec.{T, leb, ltb, le→leb}
+use lib.Ieee.Bits.{is-true}
 use lib.IntN.{ℤ, pos, negsuc}
 use mir.Syntax.{Sign, unsigned, signed, Width, w8, w16, w32, w64, w128}
 use mir.Val.{bytes}
@@ -102,17 +103,9 @@ from-castable : (s : Sign) (w : Width) (z : ℤ) → inRange s w z ≡ true → 
     castable t v (from s w z) ≡ inRange t v z
 from-castable s w z h t v = rw (from-value s w z h) (by (inRange t v z) refl)
   where
-    both : (a : Bool) → T a → (a && true) ≡ true
-    both true n = refl
-    both false n = absurd n
-
-    neither : (a : Bool) → (a && false) ≡ false
-    neither true = refl
-    neither false = refl
-
     by : (b : Bool) → inRange t v z ≡ b → (leb (bytes (width (from s w z))) (bytes v) && b) ≡ b
-    by true e = both (leb (bytes (width (from s w z))) (bytes v)) (from-least s w z h t v e)
-    by false e = neither (leb (bytes (width (from s w z))) (bytes v))
+    by true e = simp (is-true (leb (bytes (width (from s w z))) (bytes v)) (from-least s w z h t v e))
+    by false e = and-false (leb (bytes (width (from s w z))) (bytes v))
 
 pub cast-from : {X : Type 0} (t : Sign) (v : Width) (f : ℤ → X) (g : Refusal → X) (s : Sign) (w : Width) (z : ℤ) →
     inRange s w z ≡ true → cast t v f g (from s w z) ≡ pick (inRange t v z) (f z) (g R.ImpreciseCastWouldLoseData)
