@@ -209,7 +209,8 @@ module _ (x : Integer) (p : Wide) (l : p .lo < 2 ^ 64) (h : p .hi < 2 ^ 64) wher
         by false t = le-ltb (joined p) (2 ^ 127) (high-half p (ltb-false (p .hi) (2 ^ 63) t))
 
     pub words-to-unsigned : x ≡ I.I128 p → r ≡ asU128 x
-    words-to-unsigned e = k ∙ of-words unsigned (I.I128 p) e refl (wide-back p (l, h)) _ (by (ltb (p .hi) (2 ^ 63)) refl)
+    words-to-unsigned e =
+        k ∙ of-words unsigned (I.I128 p) e refl (wide-back p (l, h)) _ (by (ltb (p .hi) (2 ^ 63)) refl)
       where
         by : (b : Bool) → ltb (p .hi) (2 ^ 63) ≡ b → inRange unsigned w128 (toZ w128 (joined p)) ≡ b
         by true t = rw (toZ-pos w128 (joined p) (low-half p (l, h) (ltb-true (p .hi) (2 ^ 63) t))) unsigned-in

@@ -3,16 +3,15 @@
 use mathlib.Core.Path.{_≡_, refl, _∙_, sym, ap, subst}
 use mathlib.Core.Bool.{Bool, true, false, not, _&&_, and-false, false≢true}
 use mathlib.Core.List.{List, [], _∷_}
-use Prim.Native.Nat.{ℕ, suc, _-_, _*_, _^_, _<_}
-use native.Mathlib.Omega.{arith}
+use Prim.Native.Nat.{ℕ, _^_, _<_}
 use lib.Dec.{T, eqb, eqb-refl}
 use lib.Ieee.Bits.{is-true}
 use lib.IntN.{ℤ, pos, negsuc}
 use mir.Syntax.{Sign, signed, unsigned, Width, w128}
-use mir.Val.{bits, hbits, bytes, ofZ, hasKey}
-use mir.ValLaws.{pow-bits, toZ-fits, ofZ-toZ, eqW→eq}
+use mir.Val.{bytes, toZ, ofZ, hasKey}
+use mir.ValLaws.{toZ-ofZ, toZ-fits, ofZ-toZ, eqW→eq}
 use borrow.Author.Needs.{needs}
-use borrow.Author.Tests.{lt-ltb, ltb-true, eq-eqb, ne-eqb, eqb-true, eqb-false}
+use borrow.Author.Tests.{lt-ltb, eq-eqb, ne-eqb, eqb-true, eqb-false}
 use types.Run.{OneOf, miss}
 use Rattle.types.specs.Choice.{pick}
 use Rattle.types.specs.declared.Integer.{Integer}
@@ -22,39 +21,37 @@ use Rattle.types.specs.Values.{value, joined, words}
 use Rattle.cast.specs.Variants.{sign, width, inRange, sameSign, sameValue, equalIntegers, equalOf}
 use Rattle.cast.proofs.Places.{every, tag, place, placed}
 use Rattle.cast.proofs.Words.{joined-fits, words-joined}
-use Rattle.cast.proofs.Ranges.{fits-signed, fits-unsigned}
+use Rattle.cast.proofs.Ranges.{signed-fits, fits-signed, fits-unsigned}
 
 -- ---- two values, by their bits
 
 -- two tests that say the same
-same-tests : (a b c d : ℕ) → (a ≡ b → c ≡ d) → (c ≡ d → a ≡ b) → eqb a b ≡ eqb c d
-same-tests a b c d f g = by (eqb a b) (eqb c d) refl refl
-  where
-    by : (t u : Bool) → eqb a b ≡ t → eqb c d ≡ u → eqb a b ≡ eqb c d
-    by true u p q = p ∙ sym (eq-eqb c d (f (eqb-true a b p)))
-    by false true p q = absurd (eqb-false a b p (g (eqb-true c d q)))
-    by false false p q = p ∙ sym q
+agree : (a b : Bool) → (a ≡ true → b ≡ true) → (b ≡ true → a ≡ true) → a ≡ b
+agree true b f g = sym (f refl)
+agree false true f g = g refl
+agree false false f g = refl
 
-apart : (m n p b : ℕ) → m < p → n < p → b ≡ p * 2 → m ≡ b - suc n → ⊥
-apart m n p b h k e q = omega arith
+same-value : (x y : ℤ) → sameValue x y ≡ true → x ≡ y
+same-value (pos m) (pos n) h = ap pos (eqb-true m n h)
+same-value (pos m) (negsuc n) h = absurd (false≢true h)
+same-value (negsuc m) (pos n) h = absurd (false≢true h)
+same-value (negsuc m) (negsuc n) h = ap negsuc (eqb-true m n h)
 
-below : (m n p b : ℕ) → m < p → n < p → b ≡ p * 2 → b - suc m ≡ b - suc n → m ≡ n
-below m n p b h k e q = omega arith
+value-same : (x : ℤ) → sameValue x x ≡ true
+value-same (pos n) = eq-eqb n n refl
+value-same (negsuc n) = eq-eqb n n refl
 
 same-bits : (s : Sign) (w : Width) (x y : ℤ) → inRange s w x ≡ true → inRange s w y ≡ true →
     eqb (ofZ w x) (ofZ w y) ≡ sameValue x y
-same-bits s w (pos m) (pos n) f g = refl
+same-bits unsigned w (pos m) (pos n) f g = refl
 same-bits unsigned w (negsuc m) y f g = absurd (false≢true f)
 same-bits unsigned w (pos m) (negsuc n) f g = absurd (false≢true g)
-same-bits signed w (pos m) (negsuc n) f g =
-    ne-eqb m (2 ^ bits w - suc n) (apart m n (2 ^ hbits w) (2 ^ bits w) (ltb-true _ _ f) (ltb-true _ _ g) (pow-bits w))
-same-bits signed w (negsuc m) (pos n) f g =
-    ne-eqb (2 ^ bits w - suc m) n
-    (λ e. apart n m (2 ^ hbits w) (2 ^ bits w) (ltb-true _ _ g) (ltb-true _ _ f) (pow-bits w) (sym e))
-same-bits signed w (negsuc m) (negsuc n) f g =
-    same-tests (2 ^ bits w - suc m) (2 ^ bits w - suc n) m n
-    (below m n (2 ^ hbits w) (2 ^ bits w) (ltb-true _ _ f) (ltb-true _ _ g) (pow-bits w))
-    (ap (λ (k : ℕ). 2 ^ bits w - suc k))
+same-bits signed w x y f g =
+    agree (eqb (ofZ w x) (ofZ w y)) (sameValue x y) (λ p. rw (back (eqb-true (ofZ w x) (ofZ w y) p)) (value-same y))
+    (λ p. eq-eqb (ofZ w x) (ofZ w y) (ap (ofZ w) (same-value x y p)))
+  where
+    back : ofZ w x ≡ ofZ w y → x ≡ y
+    back e = sym (toZ-ofZ w x (signed-fits w x f)) ∙ ap (toZ w) e ∙ toZ-ofZ w y (signed-fits w y g)
 
 -- ---- two integers of one variant: a is the variant y, and b the variant z
 

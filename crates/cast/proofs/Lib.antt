@@ -1,6 +1,6 @@
+pub mod Places
 pub mod Words
 pub mod Ranges
-pub mod Places
 pub mod Arms
 pub mod Wides
 pub mod Zeros

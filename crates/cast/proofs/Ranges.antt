@@ -4,17 +4,19 @@ use mathlib.Core.Bool.{Bool, true, false, false≢true}
 use Prim.Native.Nat.{ℕ, _*_, _^_, _≤_}
 use native.Mathlib.Nat.{lt-of-lt-of-le}
 use native.Mathlib.Omega.{arith}
-use lib.Dec.{T, leb, ltb, leb→le, ltb→lt}
+use lib.Dec.{T, eqb, leb, ltb, leb→le, ltb→lt}
+use lib.Ieee.Bits.{is-true}
 use lib.Pow.{pow-mono}
 use lib.IntN.{ℤ, pos, negsuc, natAbs}
 use lib.Signed.{mag}
 use mir.Syntax.{Sign, unsigned, signed, Width, w8, w16, w32, w64, w128}
 use mir.Val.{bits, hbits, bytes, Fits, SFits, toZ, ofZ}
 use mir.ValLaws.{toZ-ofZ, bits-suc}
-use borrow.Author.Tests.{lt-ltb, ltb-true}
+use borrow.Author.Tests.{lt-ltb, ltb-true, eqb-true}
 use Rattle.types.specs.Values.{value}
 use Rattle.types.proofs.Values.{joined-words}
 use Rattle.cast.specs.Variants.{width, variant, inRange}
+use Rattle.cast.proofs.Places.{every}
 
 pub signed-fits : (w : Width) (z : ℤ) → inRange signed w z ≡ true → SFits w z
 signed-fits w z h = record { sfits = ltb-true (mag z) (2 ^ hbits w) h }
@@ -27,11 +29,7 @@ fits-unsigned w n f = lt-ltb n (2 ^ bits w) (f .fits)
 
 -- a byte is eight bits
 bits-bytes : (w : Width) → bits w ≡ 8 * bytes w
-bits-bytes w8 = refl
-bits-bytes w16 = refl
-bits-bytes w32 = refl
-bits-bytes w64 = refl
-bits-bytes w128 = refl
+bits-bytes w = eqb-true (bits w) (8 * bytes w) (is-true _ (every (λ (v : Width). eqb (bits v) (8 * bytes v)) tt w))
 
 -- so the order of widths, by bytes, is that of their bits
 bits-le : (v w : Width) → T (leb (bytes v) (bytes w)) → bits v ≤ bits w
