@@ -19,7 +19,7 @@ use Rattle.types.specs.declared.Integer.the-variants as I
 use Rattle.types.specs.declared.Wide.{Wide}
 use Rattle.types.specs.Values.{joined}
 use Rattle.cast.specs.Variants.{variant, inRange}
-use Rattle.cast.specs.Froms.{from}
+use Rattle.cast.specs.Froms.{tried, from}
 use Rattle.cast.proofs.Words.{words-joined, wide-back, low-only, high-word, low-half, high-negative}
 use Rattle.cast.proofs.Ranges.{narrower, signed-fits, fits-signed, is-natural, natural-fits}
 use Rattle.cast.proofs.Between.{under, inside, over}
@@ -56,38 +56,23 @@ from-crossed w64 n z h k = simp (narrower signed w8 w32 tt z h, narrower signed 
 from-crossed w128 n z h k =
     simp (narrower signed w8 w64 tt z h, narrower signed w16 w64 tt z h, narrower signed w32 w64 tt z h, h, k)
 
--- half the width does not hold it
+-- half the width does not hold it, so no smaller width does
+passed-by : (s : Sign) (u v : Width) → T (leb (bytes u) (bytes v)) → (z : ℤ) (x : Integer) → inRange s v z ≡ false →
+    inRange unsigned v z ≡ false → x ≡ tried s u z x
+passed-by signed u v t z x h k = simp (narrower signed u v t z h, narrower unsigned u v t z k)
+passed-by unsigned u v t z x h k = simp (narrower unsigned u v t z k)
+
 pub from-own : (s : Sign) (w : Width) → T (ltb (bytes (half w)) (bytes w)) → (z : ℤ) → inRange s (half w) z ≡ false →
     inRange unsigned (half w) z ≡ false → variant s w z ≡ from s w z
 unfolding from
 from-own s w8 n z h k = absurd n
-from-own signed w16 n z h k = simp (h, k)
-from-own signed w32 n z h k = simp (narrower signed w8 w16 tt z h, narrower unsigned w8 w16 tt z k, h, k)
-from-own signed w64 n z h k =
-    simp (
-      narrower signed w8 w32 tt z h,
-      narrower unsigned w8 w32 tt z k,
-      narrower signed w16 w32 tt z h,
-      narrower unsigned w16 w32 tt z k,
-      h,
-      k,
-    )
-from-own signed w128 n z h k =
-    simp (
-      narrower signed w8 w64 tt z h,
-      narrower unsigned w8 w64 tt z k,
-      narrower signed w16 w64 tt z h,
-      narrower unsigned w16 w64 tt z k,
-      narrower signed w32 w64 tt z h,
-      narrower unsigned w32 w64 tt z k,
-      h,
-      k,
-    )
-from-own unsigned w16 n z h k = simp k
-from-own unsigned w32 n z h k = simp (narrower unsigned w8 w16 tt z k, k)
-from-own unsigned w64 n z h k = simp (narrower unsigned w8 w32 tt z k, narrower unsigned w16 w32 tt z k, k)
-from-own unsigned w128 n z h k =
-    simp (narrower unsigned w8 w64 tt z k, narrower unsigned w16 w64 tt z k, narrower unsigned w32 w64 tt z k, k)
+from-own s w16 n z h k = passed-by s w8 w8 tt z _ h k
+from-own s w32 n z h k = passed-by s w16 w16 tt z _ h k ∙ passed-by s w8 w16 tt z _ h k
+from-own s w64 n z h k =
+    passed-by s w32 w32 tt z _ h k ∙ passed-by s w16 w32 tt z _ h k ∙ passed-by s w8 w32 tt z _ h k
+from-own s w128 n z h k =
+    passed-by s w64 w64 tt z _ h k ∙ passed-by s w32 w64 tt z _ h k ∙ passed-by s w16 w64 tt z _ h k
+    ∙ passed-by s w8 w64 tt z _ h k
 
 -- ---- the narrowest: there is no smaller width
 pub narrowest-signed : (z : ℤ) → SFits w8 z → I.I8 (toZ w8 (ofZ w8 z)) ≡ from signed w8 z
