@@ -1,22 +1,21 @@
--- The arms of the casts, each kind of arm once, over the widths: a value that is taken, a value that does not fit, and the
--- variants that are too wide. Rests on the laws of ranges.
-use mathlib.Core.Path.{_≡_, refl, _∙_, sym, ap, subst}
-use mathlib.Core.Bool.{Bool, true, false, _&&_, false≢true}
+-- The arms of the casts, each kind of arm once: of an integer x that the code found to be the variant y, by y's sign,
+-- its width and its value. Rests on the laws of ranges.
+use mathlib.Core.Path.{_≡_, refl, _∙_, sym, ap}
+use mathlib.Core.Bool.{Bool, true, false, not, _||_, and-false, false≢true}
 use mathlib.Core.List.{List, [], _∷_}
-use Prim.Native.Nat.{ℕ, suc, _-_, _^_, _≤_, _<_}
+use Prim.Native.Nat.{ℕ, _-_, _^_, _≤_, _<_}
 use native.Mathlib.Nat.{le-of-lt, le-refl}
 use native.Mathlib.Omega.{arith}
+use borrow.Author.Needs.{needs}
 use lib.Dec.{T, leb, ltb, ltb→lt, le→leb}
 use lib.IntN.{ℤ, pos, negsuc, natAbs}
-use lib.Signed.{leZ, nonNeg}
-use mathlib.Core.Logic.{inl, inr}
-use lib.ListN.{getD}
-use lib.Ieee.Fits.{and-l, and-r}
+use lib.Signed.{leZ, nonNeg, mag}
+use lib.Pow.{pow-pos}
+use lib.Ieee.Bits.{is-true}
 use mir.Syntax.{Sign, unsigned, signed, Width, w8, w16, w32, w64, w128}
-use mir.Val.{bits, hbits, bytes, Fits, SFits, toZ, ofZ}
-use mir.ValLaws.{toZ-ofZ, toZ-pos, toZ-fits, half-full}
+use mir.Val.{hbits, bytes, Fits, SFits, toZ, ofZ, hasKey}
+use mir.ValLaws.{toZ-ofZ, toZ-pos, toZ-fits}
 use borrow.Author.Tests.{leb-false, lt-leb, lt-ltb, le-ltb, ltb-true, ltb-false}
-use denote.Enum.Declared
 use types.Run.{OneOf}
 use Rattle.types.specs.Choice.{pick}
 use Rattle.types.specs.declared.Integer.{Integer}
@@ -26,220 +25,206 @@ use Rattle.types.specs.declared.Refusal.the-variants as R
 use Rattle.types.specs.declared.Wide.{Wide}
 use Rattle.types.specs.declared.AsWide.{AsWide}
 use Rattle.types.specs.declared.AsWide.the-variants as A
-use Rattle.types.proofs.Integer as Made
-use Rattle.types.specs.Values.{joined, wideOf}
-use Rattle.cast.specs.Variants.{width, variant, inRange}
+use Rattle.types.specs.Values.{joined, wideOf, value}
+use Rattle.cast.specs.Variants.{sign, width, inRange}
 use Rattle.cast.specs.Casts.{cast, keptWords, asI128, asU128}
-use Rattle.cast.proofs.Words.{Held, words-joined, joined-fits, wide-back, low-half, high-half, high-negative, small-words, negative-words}
-use Rattle.cast.proofs.Ranges.{wider, wider-signed, wider-unsigned, signed-fits, fits-signed, fits-unsigned, variant-width, variant-value}
-
--- ---- what a cast answers, by the variant's sign and width and its value
-
-module _ {X : Type 0} (t : Sign) (w : Width) (f : ℤ → X) (g : Refusal → X) where
-  pub cast-variant : (s : Sign) (v : Width) (z : ℤ) → inRange s v z ≡ true → cast t w f g (variant s v z) ≡ pick (leb (bytes v) (bytes w) && inRange t w z) (f z) (g R.ImpreciseCastWouldLoseData)
-  unfolding cast
-  cast-variant s v z h = simp (variant-width s v z, variant-value s v z h)
-
-  -- a value that is taken, in whatever form z′ the code has it
-  pub takes : (s : Sign) (v : Width) {x : Integer} (z : ℤ) {z′ : ℤ} → inRange s v z ≡ true → x ≡ variant s v z → T (leb (bytes v) (bytes w)) → inRange t w z ≡ true → z′ ≡ z → f z′ ≡ cast t w f g x
-  takes s v z h e n i k = ap f k ∙ sym (ap (cast t w f g) e ∙ cast-variant s v z h ∙ ap (λ (b : Bool). pick b (f z) (g R.ImpreciseCastWouldLoseData)) (both (leb (bytes v) (bytes w)) (inRange t w z) n i))
-    where
-      both : (a b : Bool) → T a → b ≡ true → (a && b) ≡ true
-      both true b n i = i
-      both false b n i = absurd n
-
-  -- a value that does not fit
-  pub refuses : (s : Sign) (v : Width) {x : Integer} (z : ℤ) → inRange s v z ≡ true → x ≡ variant s v z → inRange t w z ≡ false → g R.ImpreciseCastWouldLoseData ≡ cast t w f g x
-  refuses s v z h e i = sym (ap (cast t w f g) e ∙ cast-variant s v z h ∙ ap (λ (b : Bool). pick b (f z) (g R.ImpreciseCastWouldLoseData)) (neither (leb (bytes v) (bytes w)) (inRange t w z) i))
-    where
-      neither : (a b : Bool) → b ≡ false → (a && b) ≡ false
-      neither true b i = i
-      neither false b i = refl
+use Rattle.cast.proofs.Places.{everyWidth, every, tag, place, placed, among}
+use Rattle.cast.proofs.Words.{words-joined, joined-fits, wide-back, low-half, high-half, high-negative}
+use Rattle.cast.proofs.Ranges.{wider, wider-signed, wider-unsigned, signed-fits, fits-signed, fits-unsigned}
+use Rattle.cast.proofs.Ranges.{is-natural, natural-fits}
 
 -- ---- the variants that are too wide, which the code has in one arm, by their places in the enum
 
--- the bytes of the variant at a place
-variantBytes : List ℕ
-variantBytes = 1 ∷ 2 ∷ 4 ∷ 8 ∷ 16 ∷ 1 ∷ 2 ∷ 4 ∷ 8 ∷ 16 ∷ []
-
-place-bytes : (x : Integer) → bytes (width x) ≡ getD variantBytes (Declared.tagOf Made.the-type x) 0
-unfolding variantBytes
-place-bytes (I.I8 v) = refl
-place-bytes (I.I16 v) = refl
-place-bytes (I.I32 v) = refl
-place-bytes (I.I64 v) = refl
-place-bytes (I.I128 v) = refl
-place-bytes (I.U8 v) = refl
-place-bytes (I.U16 v) = refl
-place-bytes (I.U32 v) = refl
-place-bytes (I.U64 v) = refl
-place-bytes (I.U128 v) = refl
-
--- every place of a list has a variant of more bytes than w
-abbrev pub allWider : Width → List ℕ → Bool
-unfolding variantBytes
-allWider w [] = true
-allWider w (k ∷ ks) = ltb (bytes w) (getD variantBytes k 0) && allWider w ks
-
-one-wider : (w : Width) (ks : List ℕ) (n : ℕ) → T (allWider w ks) → OneOf ks n → T (ltb (bytes w) (getD variantBytes n 0))
-unfolding variantBytes
-one-wider w [] n t o = absurd o
-one-wider w (k ∷ []) n t o = subst (λ (m : ℕ). T (ltb (bytes w) (getD variantBytes m 0))) (sym o) (and-l (ltb (bytes w) (getD variantBytes k 0)) true t)
-one-wider w (k ∷ j ∷ ks) n t (inl e) = subst (λ (m : ℕ). T (ltb (bytes w) (getD variantBytes m 0))) (sym e) (and-l (ltb (bytes w) (getD variantBytes k 0)) (allWider w (j ∷ ks)) t)
-one-wider w (k ∷ j ∷ ks) n t (inr o) = one-wider w (j ∷ ks) n (and-r (ltb (bytes w) (getD variantBytes k 0)) (allWider w (j ∷ ks)) t) o
-
 -- the places of the variants that are wider than w, in the order in which the code names them
-abbrev pub placesWider : Width → List ℕ
+abbrev placesWider : Width → List ℕ
 placesWider w8 = 1 ∷ 6 ∷ 2 ∷ 7 ∷ 3 ∷ 8 ∷ 4 ∷ 9 ∷ []
 placesWider w16 = 2 ∷ 7 ∷ 3 ∷ 8 ∷ 4 ∷ 9 ∷ []
 placesWider w32 = 3 ∷ 8 ∷ 4 ∷ 9 ∷ []
 placesWider w64 = 4 ∷ 9 ∷ []
 placesWider w128 = []
 
-all-wider : (w : Width) → T (allWider w (placesWider w))
-unfolding variantBytes
-all-wider w8 = tt
-all-wider w16 = tt
-all-wider w32 = tt
-all-wider w64 = tt
-all-wider w128 = tt
+abbrev widerOrElsewhere : Sign → Width → Width → Bool
+widerOrElsewhere s v w = ltb (bytes w) (bytes v) || not (hasKey (placesWider w) (place s v))
 
-pub refuses-wider : {X : Type 0} (t : Sign) (w : Width) (f : ℤ → X) (g : Refusal → X) (x : Integer) → OneOf (placesWider w) (Declared.tagOf Made.the-type x) → g R.ImpreciseCastWouldLoseData ≡ cast t w f g x
+wider-or-elsewhere : (s : Sign) (v w : Width) → T (widerOrElsewhere s v w)
+wider-or-elsewhere signed v w =
+    every (widerOrElsewhere signed v) (every (λ (u : Width). everyWidth (widerOrElsewhere signed u)) tt v) w
+wider-or-elsewhere unsigned v w =
+    every (widerOrElsewhere unsigned v) (every (λ (u : Width). everyWidth (widerOrElsewhere unsigned u)) tt v) w
+
+pub too-wide : {X : Type 0} (t : Sign) (w : Width) (f : ℤ → X) (g : Refusal → X) (x : Integer) (r : X) →
+    OneOf (placesWider w) (tag x) → r ≡ g R.ImpreciseCastWouldLoseData → r ≡ cast t w f g x
 unfolding cast
-refuses-wider t w f g x o = simp (lt-leb (bytes (width x)) (bytes w) (rw (place-bytes x) (ltb→lt (bytes w) (getD variantBytes (Declared.tagOf Made.the-type x) 0) (one-wider w (placesWider w) (Declared.tagOf Made.the-type x) (all-wider w) o))))
+too-wide t w f g x r o q =
+    let i = wider-or-elsewhere (sign x) (width x) w in
+    let h = among (ltb (bytes w) (bytes (width x))) (placesWider w) (place (sign x) (width x)) i (rw (placed x) at o) in
+    q ∙ simp (lt-leb (bytes (width x)) (bytes w) (ltb→lt (bytes w) (bytes (width x)) h))
 
 -- ---- a number of the machine that is cast on: signed numbers stand there as their bits, read back
 
--- to a wider signed type
-pub through : (v w : Width) → T (leb (bytes v) (bytes w)) → (z : ℤ) → SFits v z → SFits w (toZ v (ofZ v z))
-through v w n z h = rw (toZ-ofZ v z h) (signed-fits w z (wider signed v w n z (fits-signed v z h)))
+module _ (v w : Width) (n : T (leb (bytes v) (bytes w))) (z : ℤ) (h : SFits v z) where
+  -- to a wider signed type
+  pub through : SFits w (toZ v (ofZ v z))
+  through = rw (toZ-ofZ v z h) (signed-fits w z (wider signed v w n z (fits-signed v z h)))
 
-pub through-is : (v w : Width) → T (leb (bytes v) (bytes w)) → (z : ℤ) → SFits v z → toZ w (ofZ w (toZ v (ofZ v z))) ≡ z
-through-is v w n z h = toZ-ofZ w (toZ v (ofZ v z)) (through v w n z h) ∙ toZ-ofZ v z h
+  pub through-is : toZ w (ofZ w (toZ v (ofZ v z))) ≡ z
+  through-is = toZ-ofZ w (toZ v (ofZ v z)) through ∙ toZ-ofZ v z h
 
--- the test `0 <= z`: what a cast to an unsigned type asks, and what it says of z
-nat-passes : (n : ℕ) → leb 0 n ≡ false → ⊥
-nat-passes n h = omega (arith, leb-false 0 n h)
+  -- to an unsigned type, after the test `0 <= z`
+  pub natural-in : leZ (pos 0) (toZ v (ofZ v z)) ≡ true → inRange unsigned w z ≡ true
+  natural-in t = by z (fits-signed v z h) (rw (toZ-ofZ v z h) at t)
+    where
+      by : (z : ℤ) → inRange signed v z ≡ true → leZ (pos 0) z ≡ true → inRange unsigned w z ≡ true
+      by (pos k) i t = wider-unsigned v w n k i
+      by (negsuc k) i t = absurd (false≢true t)
 
-module _ (v w : Width) (n : T (leb (bytes v) (bytes w))) where
-  pub natural : (z : ℤ) → SFits v z → leZ (pos 0) (toZ v (ofZ v z)) ≡ true → T (nonNeg (toZ v (ofZ v z))) × Fits w (natAbs (toZ v (ofZ v z)))
-  natural (pos k) h t = rw (toZ-ofZ v (pos k) h) (tt, record { fits = ltb-true k (2 ^ bits w) (wider-unsigned v w n k (fits-signed v (pos k) h)) })
-  natural (negsuc k) h t = absurd (false≢true (rw (toZ-ofZ v (negsuc k) h) at t))
+  pub natural-size : leZ (pos 0) (toZ v (ofZ v z)) ≡ true → Fits w (natAbs (toZ v (ofZ v z)))
+  natural-size t = rw (toZ-ofZ v z h) (natural-fits w z (natural-in t))
 
-  pub natural-in : (z : ℤ) → SFits v z → leZ (pos 0) (toZ v (ofZ v z)) ≡ true → inRange unsigned w z ≡ true
-  natural-in (pos k) h t = wider-unsigned v w n k (fits-signed v (pos k) h)
-  natural-in (negsuc k) h t = absurd (false≢true (rw (toZ-ofZ v (negsuc k) h) at t))
+pub natural-sign : (z : ℤ) → leZ (pos 0) z ≡ true → T (nonNeg z)
+natural-sign (pos k) t = tt
+natural-sign (negsuc k) t = absurd (false≢true t)
 
-  pub natural-is : (z : ℤ) → SFits v z → leZ (pos 0) (toZ v (ofZ v z)) ≡ true → pos (natAbs (toZ v (ofZ v z))) ≡ z
-  natural-is (pos k) h t = rw (toZ-ofZ v (pos k) h)
-  natural-is (negsuc k) h t = absurd (false≢true (rw (toZ-ofZ v (negsuc k) h) at t))
+-- below 0
+pub is-negative : (z : ℤ) → leZ (pos 0) z ≡ false → z ≡ negsuc (mag z)
+is-negative (pos k) t = absurd (passes k (leb-false 0 k t))
+  where
+    passes : (k : ℕ) → k < 0 → ⊥
+    passes k h = omega arith
+is-negative (negsuc k) t = refl
 
-  pub negative-out : (z : ℤ) → SFits v z → leZ (pos 0) (toZ v (ofZ v z)) ≡ false → inRange unsigned w z ≡ false
-  negative-out (pos k) h t = absurd (nat-passes k (rw (toZ-ofZ v (pos k) h) at t))
-  negative-out (negsuc k) h t = refl
+-- ---- an integer x that is the variant y
 
--- ---- the arms that take a number, over the widths: from signed and unsigned, to signed and unsigned
+-- the machine's number that a value is cast to on its way into a width: two words are made of 64 bits
+abbrev machine : Width → Width
+machine w = pick (leb (bytes w) 8) w w64
 
-lt-le : (a b : ℕ) → T (ltb a b) → T (leb a b)
-lt-le a b t = le→leb a b (le-of-lt (ltb→lt a b t))
+module _ {X : Type 0} (w : Width) (f : ℤ → X) (g : Refusal → X) (x y : Integer) (e : x ≡ y) where
+  takes : (t : Sign) (r : X) → T (leb (bytes (width y)) (bytes w)) → inRange t w (value y) ≡ true → r ≡ f (value y) →
+      r ≡ cast t w f g x
+  unfolding cast
+  takes t r n i k = rw e (k ∙ simp (is-true (leb (bytes (width y)) (bytes w)) n, i))
 
-module _ {X : Type 0} (v w : Width) (f : ℤ → X) (g : Refusal → X) where
-  -- as it stands
-  pub signed-kept : T (leb (bytes v) (bytes w)) → {x : Integer} (z : ℤ) → SFits v z → x ≡ variant signed v z → f (toZ v (ofZ v z)) ≡ cast signed w f g x
-  signed-kept n z h e = takes signed w f g signed v z (fits-signed v z h) e n (wider signed v w n z (fits-signed v z h)) (toZ-ofZ v z h)
+  refuses : (t : Sign) (r : X) → inRange t w (value y) ≡ false → r ≡ g R.ImpreciseCastWouldLoseData → r ≡ cast t w f g x
+  unfolding cast
+  refuses t r i q = rw e (q ∙ simp (i, and-false (leb (bytes (width y)) (bytes w))))
 
-  -- through a width u between
-  pub signed-signed : (u : Width) → T (leb (bytes v) (bytes u)) → T (leb (bytes v) (bytes w)) → {x : Integer} (z : ℤ) → SFits v z → x ≡ variant signed v z → f (toZ u (ofZ u (toZ v (ofZ v z)))) ≡ cast signed w f g x
-  signed-signed u m n z h e = takes signed w f g signed v z (fits-signed v z h) e n (wider signed v w n z (fits-signed v z h)) (through-is v u m z h)
+  -- of a signed variant
+  module _ (i : inRange (sign y) (width y) (value y) ≡ true) (s : sign y ≡ signed) where
+    held : SFits (width y) (value y)
+    held = signed-fits (width y) (value y) (rw s at i)
 
-  pub unsigned-signed : T (ltb (bytes v) (bytes w)) → {x : Integer} (k : ℕ) → Fits v k → x ≡ variant unsigned v (pos k) → f (toZ w k) ≡ cast signed w f g x
-  unsigned-signed n k h e =
-      let i = wider-signed v w n (pos k) (fits-unsigned v k h) in
-      takes signed w f g unsigned v (pos k) (fits-unsigned v k h) e (lt-le (bytes v) (bytes w) n) i (toZ-pos w k (signed-fits w (pos k) i .sfits))
+    module _ (n : T (leb (bytes (width y)) (bytes w))) (r : X) where
+      -- to a signed type: as the number stands, and cast on
+      pub signed-kept : r ≡ f (toZ (width y) (ofZ (width y) (value y))) → r ≡ cast signed w f g x
+      signed-kept k =
+          takes signed r n (wider signed (width y) w n (value y) (rw s at i))
+          (k ∙ ap f (toZ-ofZ (width y) (value y) held))
 
-  pub unsigned-kept : T (ltb (bytes v) (bytes w)) → {x : Integer} (k : ℕ) → Fits v k → x ≡ variant unsigned v (pos k) → f (pos k) ≡ cast signed w f g x
-  unsigned-kept n k h e = takes signed w f g unsigned v (pos k) (fits-unsigned v k h) e (lt-le (bytes v) (bytes w) n) (wider-signed v w n (pos k) (fits-unsigned v k h)) refl
+      pub signed-widened : T (leb (bytes (width y)) (bytes (machine w))) →
+          r ≡ f (toZ (machine w) (ofZ (machine w) (toZ (width y) (ofZ (width y) (value y))))) → r ≡ cast signed w f g x
+      signed-widened m k =
+          takes signed r n (wider signed (width y) w n (value y) (rw s at i))
+          (k ∙ ap f (through-is (width y) (machine w) m (value y) held))
 
-  pub unsigned-unsigned : T (leb (bytes v) (bytes w)) → {x : Integer} (k : ℕ) → Fits v k → x ≡ variant unsigned v (pos k) → f (pos k) ≡ cast unsigned w f g x
-  unsigned-unsigned n k h e = takes unsigned w f g unsigned v (pos k) (fits-unsigned v k h) e n (wider unsigned v w n (pos k) (fits-unsigned v k h)) refl
+      -- to an unsigned type, from 0 up
+      pub from-zero : leZ (pos 0) (toZ (width y) (ofZ (width y) (value y))) ≡ true →
+          r ≡ f (pos (natAbs (toZ (width y) (ofZ (width y) (value y))))) → r ≡ cast unsigned w f g x
+      from-zero t k =
+          let u = natural-in (width y) w n (value y) held t in
+          takes unsigned r n u (k ∙ rw (toZ-ofZ (width y) (value y) held) (ap f (is-natural w (value y) u)))
 
-  pub signed-unsigned : T (leb (bytes v) (bytes w)) → {x : Integer} (z : ℤ) → SFits v z → leZ (pos 0) (toZ v (ofZ v z)) ≡ true → x ≡ variant signed v z → f (toZ v (ofZ v z)) ≡ cast unsigned w f g x
-  signed-unsigned n z h t e = takes unsigned w f g signed v z (fits-signed v z h) e n (natural-in v w n z h t) (toZ-ofZ v z h)
+    -- and below
+    pub negative : (r : X) → leZ (pos 0) (toZ (width y) (ofZ (width y) (value y))) ≡ false →
+        r ≡ g R.ImpreciseCastWouldLoseData → r ≡ cast unsigned w f g x
+    negative r t =
+        let u = rw (toZ-ofZ (width y) (value y) held) at t in
+        refuses unsigned r (ap (inRange unsigned w) (is-negative (value y) u))
 
-  pub signed-natural : T (leb (bytes v) (bytes w)) → {x : Integer} (z : ℤ) → SFits v z → leZ (pos 0) (toZ v (ofZ v z)) ≡ true → x ≡ variant signed v z → f (pos (natAbs (toZ v (ofZ v z)))) ≡ cast unsigned w f g x
-  signed-natural n z h t e = takes unsigned w f g signed v z (fits-signed v z h) e n (natural-in v w n z h t) (natural-is v w n z h t)
+  -- of an unsigned variant
+  module _ (i : inRange (sign y) (width y) (value y) ≡ true) (s : sign y ≡ unsigned) where
+    -- to an unsigned type
+    pub unsigned-kept : (r : X) → T (leb (bytes (width y)) (bytes w)) → r ≡ f (value y) → r ≡ cast unsigned w f g x
+    unsigned-kept r n k = takes unsigned r n (wider unsigned (width y) w n (value y) (rw s at i)) k
 
-  pub signed-unsigned-lost : T (leb (bytes v) (bytes w)) → {x : Integer} (z : ℤ) → SFits v z → leZ (pos 0) (toZ v (ofZ v z)) ≡ false → x ≡ variant signed v z → g R.ImpreciseCastWouldLoseData ≡ cast unsigned w f g x
-  signed-unsigned-lost n z h t e = refuses unsigned w f g signed v z (fits-signed v z h) e (negative-out v w n z h t)
+    its-value : pos (natAbs (value y)) ≡ value y
+    its-value = is-natural (width y) (value y) (rw s at i)
 
--- at one width: an unsigned number below the half, and from the half on
-module _ {X : Type 0} (w : Width) (f : ℤ → X) (g : Refusal → X) where
-  pub unsigned-low : {x : Integer} (k : ℕ) → k < 2 ^ hbits w → x ≡ variant unsigned w (pos k) → f (toZ w k) ≡ cast signed w f g x
-  unsigned-low k h e = takes signed w f g unsigned w (pos k) (fits-unsigned w k (record { fits = half-full w h })) e (le→leb (bytes w) (bytes w) (le-refl (bytes w))) (lt-ltb k (2 ^ hbits w) h) (toZ-pos w k h)
+    bits-value : inRange signed w (value y) ≡ true → toZ w (natAbs (value y)) ≡ value y
+    bits-value j = toZ-pos w (natAbs (value y)) (ltb-true _ _ (rw (← its-value) at j)) ∙ its-value
 
-  pub unsigned-high : {x : Integer} (k : ℕ) → Fits w k → 2 ^ hbits w ≤ k → x ≡ variant unsigned w (pos k) → g R.ImpreciseCastWouldLoseData ≡ cast signed w f g x
-  unsigned-high k f′ h e = refuses signed w f g unsigned w (pos k) (fits-unsigned w k f′) e (le-ltb k (2 ^ hbits w) h)
+    -- to a wider signed type: as the number stands, and cast on
+    module _ (r : X) (n : T (ltb (bytes (width y)) (bytes w))) where
+      wider-in : inRange signed w (value y) ≡ true
+      wider-in = wider-signed (width y) w n (value y) (rw s at i)
+
+      pub unsigned-wide : r ≡ f (value y) → r ≡ cast signed w f g x
+      unsigned-wide k = takes signed r (le→leb (bytes (width y)) (bytes w) (le-of-lt (ltb→lt _ _ n))) wider-in k
+
+      pub unsigned-widened : r ≡ f (toZ w (natAbs (value y))) → r ≡ cast signed w f g x
+      unsigned-widened k = unsigned-wide (k ∙ ap f (bits-value wider-in))
+
+    -- to the signed type of its own width: below the half, and from the half on
+    half-in : (b : Bool) → ltb (natAbs (value y)) (2 ^ hbits w) ≡ b → inRange signed w (value y) ≡ b
+    half-in b j = ap (inRange signed w) (sym its-value) ∙ j
+
+    pub below-half : (r : X) → width y ≡ w → natAbs (value y) ≤ 2 ^ hbits w - 1 → r ≡ f (toZ w (natAbs (value y))) →
+        r ≡ cast signed w f g x
+    below-half r q l k =
+        let j = half-in true (lt-ltb (natAbs (value y)) (2 ^ hbits w) (omega (arith, pow-pos (hbits w)))) in
+        takes signed r (rw q (le→leb (bytes w) (bytes w) (le-refl (bytes w)))) j (k ∙ ap f (bits-value j))
+
+    pub past-half : (r : X) → 2 ^ hbits w - 1 < natAbs (value y) → r ≡ g R.ImpreciseCastWouldLoseData →
+        r ≡ cast signed w f g x
+    past-half r l = refuses signed r (half-in false (le-ltb (natAbs (value y)) (2 ^ hbits w) (omega arith)))
 
 -- ---- the arms of two words
 
-abbrev pub takenWide : ℤ → AsWide
-takenWide z = A.Value (wideOf z)
+module _ (x : Integer) (p : Wide) (l : p .lo < 2 ^ 64) (h : p .hi < 2 ^ 64) where
+  of-words : (t : Sign) (y : Integer) → x ≡ y → width y ≡ w128 → wideOf (value y) ≡ p → (b : Bool) →
+      inRange t w128 (value y) ≡ b →
+      pick b (A.Value p) (A.Refused R.ImpreciseCastWouldLoseData) ≡ cast t w128 (λ z. A.Value (wideOf z)) A.Refused x
+  unfolding cast
+  of-words t y e n v b i = rw e (simp (n, v, i))
 
-module _ (p : Wide) (h : Held p) where
-  -- the variant that holds them, by its value
-  signed-words : {x : Integer} → x ≡ I.I128 p → x ≡ variant signed w128 (toZ w128 (joined p))
-  signed-words e = e ∙ ap I.I128 (sym (wide-back p h))
-
-  unsigned-words : {x : Integer} → x ≡ I.U128 p → x ≡ variant unsigned w128 (pos (joined p))
-  unsigned-words e = e ∙ ap I.U128 (sym (words-joined p h))
-
-  signed-in : inRange signed w128 (toZ w128 (joined p)) ≡ true
-  signed-in = fits-signed w128 (toZ w128 (joined p)) (toZ-fits w128 (joined p) (joined-fits p h))
+  -- of one sign
+  pub words-signed : x ≡ I.I128 p → A.Value p ≡ asI128 x
+  words-signed e =
+      of-words signed (I.I128 p) e refl (wide-back p (l, h)) true
+      (fits-signed w128 (toZ w128 (joined p)) (toZ-fits w128 (joined p) (joined-fits p (l, h))))
 
   unsigned-in : inRange unsigned w128 (pos (joined p)) ≡ true
-  unsigned-in = fits-unsigned w128 (joined p) (joined-fits p h)
+  unsigned-in = fits-unsigned w128 (joined p) (joined-fits p (l, h))
 
-  pub words-i-i : {x : Integer} → x ≡ I.I128 p → A.Value p ≡ asI128 x
-  words-i-i e = ap A.Value (sym (wide-back p h)) ∙ takes signed w128 takenWide A.Refused signed w128 (toZ w128 (joined p)) signed-in (signed-words e) tt signed-in refl
-
-  pub words-u-u : {x : Integer} → x ≡ I.U128 p → A.Value p ≡ asU128 x
-  words-u-u e = ap A.Value (sym (words-joined p h)) ∙ takes unsigned w128 takenWide A.Refused unsigned w128 (pos (joined p)) unsigned-in (unsigned-words e) tt unsigned-in refl
+  pub words-unsigned : x ≡ I.U128 p → A.Value p ≡ asU128 x
+  words-unsigned e = of-words unsigned (I.U128 p) e refl (words-joined p (l, h)) true unsigned-in
 
   -- from one sign to the other, by the high word's top bit
-  pub words-u-i : {x : Integer} → x ≡ I.U128 p → keptWords p ≡ asI128 x
-  words-u-i {x} e = by (ltb (p .hi) (2 ^ 63)) refl
-    where
-      by : (b : Bool) → ltb (p .hi) (2 ^ 63) ≡ b → pick b (A.Value p) (A.Refused R.ImpreciseCastWouldLoseData) ≡ asI128 x
-      by true l =
-          ap A.Value (sym (words-joined p h))
-          ∙ takes signed w128 takenWide A.Refused unsigned w128 (pos (joined p)) unsigned-in (unsigned-words e) tt (lt-ltb (joined p) (2 ^ 127) (low-half p h (ltb-true (p .hi) (2 ^ 63) l))) refl
-      by false l = refuses signed w128 takenWide A.Refused unsigned w128 (pos (joined p)) unsigned-in (unsigned-words e) (le-ltb (joined p) (2 ^ 127) (high-half p (ltb-false (p .hi) (2 ^ 63) l)))
+  module _ (r : AsWide) (k : r ≡ keptWords p) where
+    pub words-to-signed : x ≡ I.U128 p → r ≡ asI128 x
+    words-to-signed e = k ∙ of-words signed (I.U128 p) e refl (words-joined p (l, h)) _ (by (ltb (p .hi) (2 ^ 63)) refl)
+      where
+        by : (b : Bool) → ltb (p .hi) (2 ^ 63) ≡ b → ltb (joined p) (2 ^ 127) ≡ b
+        by true t = lt-ltb (joined p) (2 ^ 127) (low-half p (l, h) (ltb-true (p .hi) (2 ^ 63) t))
+        by false t = le-ltb (joined p) (2 ^ 127) (high-half p (ltb-false (p .hi) (2 ^ 63) t))
 
-  pub words-i-u : {x : Integer} → x ≡ I.I128 p → keptWords p ≡ asU128 x
-  words-i-u {x} e = by (ltb (p .hi) (2 ^ 63)) refl
-    where
-      by : (b : Bool) → ltb (p .hi) (2 ^ 63) ≡ b → pick b (A.Value p) (A.Refused R.ImpreciseCastWouldLoseData) ≡ asU128 x
-      by true l =
-          ap A.Value (sym (wide-back p h))
-          ∙ takes unsigned w128 takenWide A.Refused signed w128 (toZ w128 (joined p)) signed-in (signed-words e) tt
-          (ap (inRange unsigned w128) (toZ-pos w128 (joined p) (low-half p h (ltb-true (p .hi) (2 ^ 63) l))) ∙ unsigned-in) refl
-      by false l = refuses unsigned w128 takenWide A.Refused signed w128 (toZ w128 (joined p)) signed-in (signed-words e) (ap (inRange unsigned w128) (high-negative p (ltb-false (p .hi) (2 ^ 63) l)))
+    pub words-to-unsigned : x ≡ I.I128 p → r ≡ asU128 x
+    words-to-unsigned e =
+        k ∙ of-words unsigned (I.I128 p) e refl (wide-back p (l, h)) _ (by (ltb (p .hi) (2 ^ 63)) refl)
+      where
+        by : (b : Bool) → ltb (p .hi) (2 ^ 63) ≡ b → inRange unsigned w128 (toZ w128 (joined p)) ≡ b
+        by true t = rw (toZ-pos w128 (joined p) (low-half p (l, h) (ltb-true (p .hi) (2 ^ 63) t))) unsigned-in
+        by false t = ap (inRange unsigned w128) (high-negative p (ltb-false (p .hi) (2 ^ 63) t))
 
--- ---- the words of a signed number of 64 bits
+-- two words that a call made
+pub made : (p q : Wide) → p ≡ q → A.Value p ≡ A.Value q
+made p q e = ap A.Value e
 
-pub natural-words : (z : ℤ) → SFits w64 z → leZ (pos 0) (toZ w64 (ofZ w64 z)) ≡ true → record { lo = natAbs (toZ w64 (ofZ w64 z)); hi = 0 } ≡ wideOf z
-natural-words z h t = small-words (natAbs (toZ w64 (ofZ w64 z))) (natural w64 w64 tt z h t .1 .fits) ∙ ap wideOf (natural-is w64 w64 tt z h t)
+pub ruleset signed-arms = (signed-kept, signed-widened, from-zero, negative, through, natural-sign, natural-size)
 
-twice : (b n : ℕ) → n < b → b - 1 - (b - suc n) ≡ n
-twice b n h = omega arith
+pub ruleset cast-arms =
+    (unsigned-kept, unsigned-widened, below-half, past-half, too-wide, signed-arms, lt-ltb, needs)
 
--- the complement of the bits of a number below 0: what its cast to the unsigned type asks
-pub complement : (w : Width) (z : ℤ) → SFits w z → leZ (pos 0) (toZ w (ofZ w z)) ≡ false → T (nonNeg (toZ w (2 ^ bits w - 1 - ofZ w z))) × Fits w (natAbs (toZ w (2 ^ bits w - 1 - ofZ w z)))
-complement w (pos k) h t = absurd (nat-passes k (rw (toZ-ofZ w (pos k) h) at t))
-complement w (negsuc k) h t = rw (twice (2 ^ bits w) k (half-full w (h .sfits)), toZ-pos w k (h .sfits)) (tt, record { fits = half-full w (h .sfits) })
+pub ruleset words-arms = (words-signed, words-unsigned, words-to-signed, words-to-unsigned, made)
 
-pub complement-words : (z : ℤ) → SFits w64 z → leZ (pos 0) (toZ w64 (ofZ w64 z)) ≡ false → record { lo = 2 ^ 64 - 1 - natAbs (toZ w64 (2 ^ 64 - 1 - ofZ w64 z)); hi = 2 ^ 64 - 1 } ≡ wideOf z
-complement-words (pos k) h t = absurd (nat-passes k (rw (toZ-ofZ w64 (pos k) h) at t))
-complement-words (negsuc k) h t =
-    let m : toZ w64 (2 ^ 64 - 1 - (2 ^ 64 - suc k)) ≡ pos k = ap (toZ w64) (twice (2 ^ 64) k (half-full w64 (h .sfits))) ∙ toZ-pos w64 k (h .sfits) in
-    ap (λ (n : ℤ). record { lo = 2 ^ 64 - 1 - natAbs n; hi = 2 ^ 64 - 1 }) m ∙ negative-words k (half-full w64 (h .sfits))
+pub ruleset wide-arms = (unsigned-kept, unsigned-wide, signed-arms, words-arms, lt-ltb, needs)

@@ -1,122 +1,111 @@
--- Two integers are equal exactly if they stand at one place of the enum and their bits are the same: of a sign, and of either.
+-- The ends of `equal` and its parts: two integers are equal exactly if they stand at one place of the enum and their
+-- bits are the same, of a sign and of either.
 use mathlib.Core.Path.{_≡_, refl, _∙_, sym, ap, subst}
-use mathlib.Core.Bool.{Bool, true, false, not, _&&_, false≢true}
+use mathlib.Core.Bool.{Bool, true, false, not, _&&_, and-false, false≢true}
 use mathlib.Core.List.{List, [], _∷_}
-use Prim.Native.Nat.{ℕ, suc, _-_, _*_, _^_, _<_}
-use native.Mathlib.Omega.{arith}
+use Prim.Native.Nat.{ℕ, _^_, _<_}
 use lib.Dec.{T, eqb, eqb-refl}
 use lib.Ieee.Bits.{is-true}
 use lib.IntN.{ℤ, pos, negsuc}
-use mir.Syntax.{Sign, signed, unsigned, Width, w8, w16, w32, w64, w128}
-use mir.Val.{bits, hbits, bytes, Fits, SFits, toZ, ofZ, hasKey}
-use mir.ValLaws.{pow-bits, toZ-fits, ofZ-toZ, eqW→eq}
-use borrow.Author.Tests.{eq-eqb, ne-eqb, eqb-true, eqb-false}
-use denote.Enum.Declared
+use mir.Syntax.{Sign, signed, unsigned, Width, w128}
+use mir.Val.{bytes, toZ, ofZ, hasKey}
+use mir.ValLaws.{toZ-ofZ, toZ-fits, ofZ-toZ, eqW→eq}
+use borrow.Author.Needs.{needs}
+use borrow.Author.Tests.{lt-ltb, eq-eqb, ne-eqb, eqb-true, eqb-false}
 use types.Run.{OneOf, miss}
 use Rattle.types.specs.Choice.{pick}
 use Rattle.types.specs.declared.Integer.{Integer}
 use Rattle.types.specs.declared.Integer.the-variants as I
 use Rattle.types.specs.declared.Wide.{Wide}
-use Rattle.types.proofs.Integer as Made
 use Rattle.types.specs.Values.{value, joined, words}
-use Rattle.cast.specs.Variants.{sign, width, variant, inRange, sameSign, sameValue, equalIntegers, equalOf}
-use Rattle.cast.proofs.Words.{Held, joined-fits, words-joined, wide-back}
-use Rattle.cast.proofs.Ranges.{fits-signed, fits-unsigned, variant-sign, variant-width, variant-value}
+use Rattle.cast.specs.Variants.{sign, width, inRange, sameSign, sameValue, equalIntegers, equalOf}
+use Rattle.cast.proofs.Places.{every, tag, place, placed}
+use Rattle.cast.proofs.Words.{joined-fits, words-joined}
+use Rattle.cast.proofs.Ranges.{signed-fits, fits-signed, fits-unsigned}
 
 -- ---- two values, by their bits
 
 -- two tests that say the same
-same-tests : (a b c d : ℕ) → (a ≡ b → c ≡ d) → (c ≡ d → a ≡ b) → eqb a b ≡ eqb c d
-same-tests a b c d f g = by (eqb a b) (eqb c d) refl refl
+agree : (a b : Bool) → (a ≡ true → b ≡ true) → (b ≡ true → a ≡ true) → a ≡ b
+agree true b f g = sym (f refl)
+agree false true f g = g refl
+agree false false f g = refl
+
+same-value : (x y : ℤ) → sameValue x y ≡ true → x ≡ y
+same-value (pos m) (pos n) h = ap pos (eqb-true m n h)
+same-value (pos m) (negsuc n) h = absurd (false≢true h)
+same-value (negsuc m) (pos n) h = absurd (false≢true h)
+same-value (negsuc m) (negsuc n) h = ap negsuc (eqb-true m n h)
+
+value-same : (x : ℤ) → sameValue x x ≡ true
+value-same (pos n) = eq-eqb n n refl
+value-same (negsuc n) = eq-eqb n n refl
+
+same-bits : (s : Sign) (w : Width) (x y : ℤ) → inRange s w x ≡ true → inRange s w y ≡ true →
+    eqb (ofZ w x) (ofZ w y) ≡ sameValue x y
+same-bits unsigned w (pos m) (pos n) f g = refl
+same-bits unsigned w (negsuc m) y f g = absurd (false≢true f)
+same-bits unsigned w (pos m) (negsuc n) f g = absurd (false≢true g)
+same-bits signed w x y f g =
+    agree (eqb (ofZ w x) (ofZ w y)) (sameValue x y) (λ p. rw (back (eqb-true (ofZ w x) (ofZ w y) p)) (value-same y))
+    (λ p. eq-eqb (ofZ w x) (ofZ w y) (ap (ofZ w) (same-value x y p)))
   where
-    by : (t u : Bool) → eqb a b ≡ t → eqb c d ≡ u → eqb a b ≡ eqb c d
-    by true u p q = p ∙ sym (eq-eqb c d (f (eqb-true a b p)))
-    by false true p q = absurd (eqb-false a b p (g (eqb-true c d q)))
-    by false false p q = p ∙ sym q
+    back : ofZ w x ≡ ofZ w y → x ≡ y
+    back e = sym (toZ-ofZ w x (signed-fits w x f)) ∙ ap (toZ w) e ∙ toZ-ofZ w y (signed-fits w y g)
 
-apart : (m n p b : ℕ) → m < p → n < p → b ≡ p * 2 → m ≡ b - suc n → ⊥
-apart m n p b h k e q = omega arith
-
-below : (m n p b : ℕ) → m < p → n < p → b ≡ p * 2 → b - suc m ≡ b - suc n → m ≡ n
-below m n p b h k e q = omega arith
-
-pub same-bits : (w : Width) (x y : ℤ) → SFits w x → SFits w y → eqb (ofZ w x) (ofZ w y) ≡ sameValue x y
-same-bits w (pos m) (pos n) f g = refl
-same-bits w (pos m) (negsuc n) f g = ne-eqb m (2 ^ bits w - suc n) (apart m n (2 ^ hbits w) (2 ^ bits w) (f .sfits) (g .sfits) (pow-bits w))
-same-bits w (negsuc m) (pos n) f g = ne-eqb (2 ^ bits w - suc m) n (λ e. apart n m (2 ^ hbits w) (2 ^ bits w) (g .sfits) (f .sfits) (pow-bits w) (sym e))
-same-bits w (negsuc m) (negsuc n) f g =
-    same-tests (2 ^ bits w - suc m) (2 ^ bits w - suc n) m n
-    (below m n (2 ^ hbits w) (2 ^ bits w) (f .sfits) (g .sfits) (pow-bits w)) (ap (λ (k : ℕ). 2 ^ bits w - suc k))
-
--- ---- two integers of one variant
+-- ---- two integers of one variant: a is the variant y, and b the variant z
 
 same-self : (s : Sign) → sameSign s s ≡ true
 same-self signed = refl
 same-self unsigned = refl
 
-pub equal-variants : (s : Sign) (w : Width) (x y : ℤ) → inRange s w x ≡ true → inRange s w y ≡ true → {a b : Integer} → a ≡ variant s w x → b ≡ variant s w y → sameValue x y ≡ equalOf s a b
-unfolding equalOf equalIntegers
-equal-variants s w x y h k {a} {b} p q =
-    sym (ap (λ (n : Integer). equalOf s n b) p ∙ ap (λ (n : Integer). equalOf s (variant s w x) n) q
-    ∙ simp (variant-sign s w x, variant-sign s w y, variant-width s w x, variant-width s w y, variant-value s w x h, variant-value s w y k, same-self s, is-true (eqb (bytes w) (bytes w)) (eqb-refl (bytes w))))
+module _ (s : Sign) (a b y z : Integer) (p : a ≡ y) (q : b ≡ z)
+    (u : sign y ≡ s) (v : sign z ≡ s) (e : width y ≡ width z) where
+  same-integers : sameValue (value y) (value z) ≡ equalOf s a b
+  unfolding equalOf equalIntegers
+  same-integers =
+      let n = bytes (width z) in
+      rw (p, q) (simp (u, v, e, same-self s, is-true (eqb n n) (eqb-refl n)))
 
-pub signed-equal : (w : Width) (x y : ℤ) → SFits w x → SFits w y → {a b : Integer} → a ≡ variant signed w x → b ≡ variant signed w y → eqb (ofZ w x) (ofZ w y) ≡ equalOf signed a b
-signed-equal w x y f g p q = same-bits w x y f g ∙ equal-variants signed w x y (fits-signed w x f) (fits-signed w y g) p q
-
-pub unsigned-equal : (w : Width) (m n : ℕ) → Fits w m → Fits w n → {a b : Integer} → a ≡ variant unsigned w (pos m) → b ≡ variant unsigned w (pos n) → eqb m n ≡ equalOf unsigned a b
-unsigned-equal w m n f g p q = equal-variants unsigned w (pos m) (pos n) (fits-unsigned w m f) (fits-unsigned w n g) p q
+  pub same-variant : (r : Bool) → inRange (sign y) (width y) (value y) ≡ true →
+      inRange (sign z) (width z) (value z) ≡ true →
+      r ≡ eqb (ofZ (width y) (value y)) (ofZ (width z) (value z)) → r ≡ equalOf s a b
+  same-variant r h k t =
+      t ∙ rw e (same-bits s (width z) (value y) (value z) (rw (u, e) at h) (rw v at k)) ∙ same-integers
 
 -- two words: both words are the same
-module _ (p q : Wide) (h : Held p) (k : Held q) where
+module _ (a b : Integer) (p q : Wide) (i : p .lo < 2 ^ 64) (h : p .hi < 2 ^ 64)
+    (j : q .lo < 2 ^ 64) (k : q .hi < 2 ^ 64) where
   same-joined : (eqb (p .hi) (q .hi) && eqb (p .lo) (q .lo)) ≡ eqb (joined p) (joined q)
   same-joined = by (eqb (p .hi) (q .hi)) (eqb (p .lo) (q .lo)) refl refl
     where
       same : joined p ≡ joined q → p ≡ q
-      same e = sym (words-joined p h) ∙ ap words e ∙ words-joined q k
+      same e = sym (words-joined p (i, h)) ∙ ap words e ∙ words-joined q (j, k)
 
       by : (t u : Bool) → eqb (p .hi) (q .hi) ≡ t → eqb (p .lo) (q .lo) ≡ u → (t && u) ≡ eqb (joined p) (joined q)
-      by true true a b = let i = eqb-true (p .hi) (q .hi) a in let j = eqb-true (p .lo) (q .lo) b in sym (eq-eqb (joined p) (joined q) (omega arith))
-      by true false a b = sym (ne-eqb (joined p) (joined q) (λ e. eqb-false (p .lo) (q .lo) b (ap (λ (w : Wide). w .lo) (same e))))
-      by false u a b = sym (ne-eqb (joined p) (joined q) (λ e. eqb-false (p .hi) (q .hi) a (ap (λ (w : Wide). w .hi) (same e))))
+      by true true c d =
+          sym (eq-eqb (joined p) (joined q) (cc (eqb-true (p .hi) (q .hi) c, eqb-true (p .lo) (q .lo) d)))
+      by true false c d =
+          sym (ne-eqb (joined p) (joined q) (λ e. eqb-false (p .lo) (q .lo) d (ap (λ (w : Wide). w .lo) (same e))))
+      by false u c d =
+          sym (ne-eqb (joined p) (joined q) (λ e. eqb-false (p .hi) (q .hi) c (ap (λ (w : Wide). w .hi) (same e))))
 
-  pub words-equal-signed : {a b : Integer} → a ≡ I.I128 p → b ≡ I.I128 q → (eqb (p .hi) (q .hi) && eqb (p .lo) (q .lo)) ≡ equalOf signed a b
-  words-equal-signed e f =
-      same-joined
-      ∙ sym (ap (λ (n : ℕ). eqb n (ofZ w128 (toZ w128 (joined q)))) (ofZ-toZ w128 (joined p) (joined-fits p h)) ∙ ap (eqb (joined p)) (ofZ-toZ w128 (joined q) (joined-fits q k)))
-      ∙ signed-equal w128 (toZ w128 (joined p)) (toZ w128 (joined q)) (toZ-fits w128 (joined p) (joined-fits p h)) (toZ-fits w128 (joined q) (joined-fits q k))
-      (e ∙ ap I.I128 (sym (wide-back p h))) (f ∙ ap I.I128 (sym (wide-back q k)))
+  module _ (r : Bool) (s : r ≡ (eqb (p .hi) (q .hi) && eqb (p .lo) (q .lo))) where
+    pub words-signed : a ≡ I.I128 p → b ≡ I.I128 q → r ≡ equalOf signed a b
+    words-signed e f =
+        let m = joined-fits p (i, h) in
+        let n = joined-fits q (j, k) in
+        same-variant signed a b (I.I128 p) (I.I128 q) e f refl refl refl r
+        (fits-signed w128 _ (toZ-fits w128 (joined p) m)) (fits-signed w128 _ (toZ-fits w128 (joined q) n))
+        (s ∙ rw (ofZ-toZ w128 (joined p) m, ofZ-toZ w128 (joined q) n) same-joined)
 
-  pub words-equal-unsigned : {a b : Integer} → a ≡ I.U128 p → b ≡ I.U128 q → (eqb (p .hi) (q .hi) && eqb (p .lo) (q .lo)) ≡ equalOf unsigned a b
-  words-equal-unsigned e f =
-      same-joined
-      ∙ unsigned-equal w128 (joined p) (joined q) (joined-fits p h) (joined-fits q k) (e ∙ ap I.U128 (sym (words-joined p h))) (f ∙ ap I.U128 (sym (words-joined q k)))
+    pub words-unsigned : a ≡ I.U128 p → b ≡ I.U128 q → r ≡ equalOf unsigned a b
+    words-unsigned e f =
+        same-variant unsigned a b (I.U128 p) (I.U128 q) e f refl refl refl r
+        (fits-unsigned w128 (joined p) (joined-fits p (i, h))) (fits-unsigned w128 (joined q) (joined-fits q (j, k)))
+        (s ∙ same-joined)
 
 -- ---- two integers of different variants
-
--- the place of a variant in the enum
-abbrev place : Sign → Width → ℕ
-place signed w8 = 0
-place signed w16 = 1
-place signed w32 = 2
-place signed w64 = 3
-place signed w128 = 4
-place unsigned w8 = 5
-place unsigned w16 = 6
-place unsigned w32 = 7
-place unsigned w64 = 8
-place unsigned w128 = 9
-
-placed : (x : Integer) → Declared.tagOf Made.the-type x ≡ place (sign x) (width x)
-placed (I.I8 v) = refl
-placed (I.I16 v) = refl
-placed (I.I32 v) = refl
-placed (I.I64 v) = refl
-placed (I.I128 v) = refl
-placed (I.U8 v) = refl
-placed (I.U16 v) = refl
-placed (I.U32 v) = refl
-placed (I.U64 v) = refl
-placed (I.U128 v) = refl
 
 -- every place but k, in the enum's order
 abbrev without : ℕ → List ℕ → List ℕ
@@ -132,67 +121,66 @@ same-sign signed unsigned h = absurd (false≢true h)
 same-sign unsigned signed h = absurd (false≢true h)
 same-sign unsigned unsigned h = refl
 
-different : (a b : Integer) → (Declared.tagOf Made.the-type a ≡ Declared.tagOf Made.the-type b → ⊥) → false ≡ equalIntegers a b
+different : (a b : Integer) → (tag a ≡ tag b → ⊥) → false ≡ equalIntegers a b
 unfolding equalIntegers
 different a b d = by (sameSign (sign a) (sign b)) (eqb (bytes (width a)) (bytes (width b))) refl refl
   where
-    by : (t u : Bool) → sameSign (sign a) (sign b) ≡ t → eqb (bytes (width a)) (bytes (width b)) ≡ u → false ≡ (t && u && sameValue (value a) (value b))
-    by true true p q = absurd (d (placed a ∙ ap (λ (s : Sign). place s (width a)) (same-sign (sign a) (sign b) p) ∙ ap (place (sign b)) (eqW→eq (width a) (width b) (yes (eqb (bytes (width a)) (bytes (width b))) q)) ∙ sym (placed b)))
-      where
-        yes : (t : Bool) → t ≡ true → T t
-        yes true h = tt
-        yes false h = absurd (false≢true h)
+    by : (t u : Bool) → sameSign (sign a) (sign b) ≡ t → eqb (bytes (width a)) (bytes (width b)) ≡ u →
+        false ≡ (t && u && sameValue (value a) (value b))
+    by true true p q =
+        let e = eqW→eq (width a) (width b) (rw q tt) in
+        absurd (d (placed a ∙ rw (same-sign (sign a) (sign b) p, e) (sym (placed b))))
     by true false p q = refl
     by false u p q = refl
 
--- a stands at the place k, and b at one of the others
-pub equal-others : (s : Sign) (k : ℕ) → T (not (hasKey (others k) k)) → (a b : Integer) → Declared.tagOf Made.the-type a ≡ k → OneOf (others k) (Declared.tagOf Made.the-type b) → false ≡ equalOf s a b
+-- a is the variant y, and b stands at one of the other places
+pub other-variant : (s : Sign) (a b y : Integer) → a ≡ y → OneOf (others (tag y)) (tag b) →
+    T (not (hasKey (others (tag y)) (tag y))) → false ≡ equalOf s a b
 unfolding equalOf
-equal-others s k n a b e o = by (sameSign (sign a) s) ∙ ap (λ (t : Bool). sameSign (sign a) s && t) (different a b (λ q. miss (others k) k n (subst (OneOf (others k)) (sym q ∙ e) o)))
-  where
-    by : (t : Bool) → false ≡ (t && false)
-    by true = refl
-    by false = refl
+other-variant s a b y e o n =
+    sym (and-false (sameSign (sign a) s))
+    ∙ ap (λ (t : Bool). sameSign (sign a) s && t)
+    (different a b (λ q. miss (others (tag y)) (tag y) n (subst (OneOf (others (tag y))) (sym q ∙ ap tag e) o)))
 
--- ---- an integer of another sign
+-- ---- an integer of the other sign
 
--- the places of the variants of a sign
-abbrev places : Sign → List ℕ
-places signed = 0 ∷ 1 ∷ 2 ∷ 3 ∷ 4 ∷ []
-places unsigned = 5 ∷ 6 ∷ 7 ∷ 8 ∷ 9 ∷ []
+abbrev placesOther : Sign → List ℕ
+placesOther signed = 5 ∷ 6 ∷ 7 ∷ 8 ∷ 9 ∷ []
+placesOther unsigned = 0 ∷ 1 ∷ 2 ∷ 3 ∷ 4 ∷ []
 
-apart-places : (w : Width) → T (not (hasKey (places signed) (place unsigned w))) × T (not (hasKey (places unsigned) (place signed w)))
-apart-places w8 = (tt, tt)
-apart-places w16 = (tt, tt)
-apart-places w32 = (tt, tt)
-apart-places w64 = (tt, tt)
-apart-places w128 = (tt, tt)
+not-same : (s u : Sign) (w : Width) → OneOf (placesOther s) (place u w) → false ≡ sameSign u s
+not-same signed unsigned w o = refl
+not-same unsigned signed w o = refl
+not-same signed signed w o =
+    let t = every (λ (v : Width). not (hasKey (placesOther signed) (place signed v))) tt w in
+    absurd (miss (placesOther signed) (place signed w) t o)
+not-same unsigned unsigned w o =
+    let t = every (λ (v : Width). not (hasKey (placesOther unsigned) (place unsigned v))) tt w in
+    absurd (miss (placesOther unsigned) (place unsigned w) t o)
 
-its-sign : (t u : Sign) (w : Width) → OneOf (places t) (place u w) → u ≡ t
-its-sign signed signed w o = refl
-its-sign signed unsigned w o = absurd (miss (places signed) (place unsigned w) (apart-places w .0) o)
-its-sign unsigned signed w o = absurd (miss (places unsigned) (place signed w) (apart-places w .1) o)
-its-sign unsigned unsigned w o = refl
-
--- a stands at one of the places of the sign t
-pub other-sign : (s t : Sign) (a b : Integer) → sameSign t s ≡ false → OneOf (places t) (Declared.tagOf Made.the-type a) → false ≡ equalOf s a b
+pub other-sign : (s : Sign) (a b : Integer) → OneOf (placesOther s) (tag a) → false ≡ equalOf s a b
 unfolding equalOf
-other-sign s t a b d o =
-    sym (ap (λ (v : Bool). v && equalIntegers a b) (ap (λ (u : Sign). sameSign u s) (its-sign t (sign a) (width a) (subst (OneOf (places t)) (placed a) o)) ∙ d))
+other-sign s a b o =
+    ap (λ (t : Bool). t && equalIntegers a b) (not-same s (sign a) (width a) (rw (placed a) at o))
 
--- ---- equal of one sign or of the other
-pub if-signed : (a b : Integer) → equalOf signed a b ≡ true → true ≡ equalIntegers a b
-unfolding equalOf
-if-signed a b h = by (sameSign (sign a) signed) (equalIntegers a b) h
-  where
-    by : (t e : Bool) → (t && e) ≡ true → true ≡ e
-    by true e h = sym h
-    by false e h = absurd (false≢true h)
+pub ruleset variant-ends = (same-variant, words-signed, words-unsigned, other-variant, other-sign, lt-ltb, needs)
 
-pub else-unsigned : (a b : Integer) → equalOf signed a b ≡ false → equalOf unsigned a b ≡ equalIntegers a b
-unfolding equalOf
-else-unsigned a b h = by (sign a) (equalIntegers a b) h
-  where
-    by : (s : Sign) (e : Bool) → (sameSign s signed && e) ≡ false → (sameSign s unsigned && e) ≡ e
-    by signed e h = sym h
-    by unsigned e h = refl
+-- ---- equal of one sign, or else of the other
+module _ (a b : Integer) (r : Bool) (e : r ≡ equalOf signed a b) where
+  pub if-signed : r ≡ true → true ≡ equalIntegers a b
+  unfolding equalOf
+  if-signed h = by (sameSign (sign a) signed) (equalIntegers a b) (sym e ∙ h)
+    where
+      by : (t e : Bool) → (t && e) ≡ true → true ≡ e
+      by true e h = sym h
+      by false e h = absurd (false≢true h)
+
+  pub else-unsigned : r ≡ false → (q : Bool) → q ≡ equalOf unsigned a b → q ≡ equalIntegers a b
+  unfolding equalOf
+  else-unsigned h q k = k ∙ by (sign a) (equalIntegers a b) (sym e ∙ h)
+    where
+      by : (s : Sign) (e : Bool) → (sameSign s signed && e) ≡ false → (sameSign s unsigned && e) ≡ e
+      by signed e h = sym h
+      by unsigned e h = refl
+
+pub ruleset equal-ends = (if-signed, else-unsigned, needs)

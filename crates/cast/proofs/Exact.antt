@@ -1,5 +1,6 @@
--- A whole number from -2 ^ p to 2 ^ p - 1 is a value of the format of p digits: the float that a cast makes of it has its
--- sign and its magnitude exactly, by IEEE 754. Rests on the library's `round-whole`, and on `binary`'s law of units.
+-- A whole number from -2 ^ p to 2 ^ p - 1 is a value of the format of p digits: the float that a cast makes of it has
+-- its sign and its magnitude exactly, by IEEE 754. Rests on the library's `round-whole`, and on `binary`'s law of
+-- units.
 use mathlib.Core.Path.{_≡_, refl}
 use mathlib.Core.Bool.{Bool, true, false}
 use Prim.Native.Nat.{ℕ, suc, _-_, _*_, _^_}
@@ -27,12 +28,14 @@ negative (pos n) = false
 negative (negsuc n) = true
 
 -- the float is finite, has the sign of z, and is natAbs z in size
-pub whole-exact : (f : Ieee.Format) (z : ℤ) → ltb (mag z) (2 ^ Ieee.prec f) ≡ true → HasValue (Ieee.ofInt f z) (negative z) (natAbs z) 1
+whole-exact : (f : Ieee.Format) (z : ℤ) → ltb (mag z) (2 ^ Ieee.prec f) ≡ true →
+    HasValue (Ieee.ofInt f z) (negative z) (natAbs z) 1
 unfolding Ieee.ofInt
 whole-exact f (pos n) h = round-whole f false n (le-of-lt (ltb-true n (2 ^ Ieee.prec f) h))
 whole-exact f (negsuc n) h = round-whole f true (suc n) (ltb-true n (2 ^ Ieee.prec f) h)
 
--- ---- in units of 2 ^ -1074, as document 01 gives a finite float: "its sign and its magnitude counted in units of 2^-1074"
+-- ---- in units of 2 ^ -1074, as document 01 gives a finite float: "its sign and its magnitude counted in units of
+-- 2^-1074"
 
 -- the float is finite, of the sign s and of u units
 abbrev pub Counted : Ieee.Float → Bool → ℕ → Type 0
@@ -45,5 +48,8 @@ value-counted Ieee.nan s n d h = h
 value-counted (Ieee.inf t) s n d h = h
 value-counted (Ieee.fin t m e) s n d h = (h .0, counted 0 1074 m n e refl d (h .1))
 
-pub whole-units : (f : Ieee.Format) (z : ℤ) → ltb (mag z) (2 ^ Ieee.prec f) ≡ true → Counted (Ieee.ofInt f z) (negative z) (natAbs z * 2 ^ 1074)
-whole-units f z h = value-counted (Ieee.ofInt f z) (negative z) (natAbs z) (fine f (Ieee.ofInt f z) (ofInt-fits f z)) (whole-exact f z h)
+pub whole-units : (f : Ieee.Format) (z : ℤ) → ltb (mag z) (2 ^ Ieee.prec f) ≡ true →
+    Counted (Ieee.ofInt f z) (negative z) (natAbs z * 2 ^ 1074)
+whole-units f z h =
+    let x = Ieee.ofInt f z in
+    value-counted x (negative z) (natAbs z) (fine f x (ofInt-fits f z)) (whole-exact f z h)

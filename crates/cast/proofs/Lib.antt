@@ -1,9 +1,12 @@
+pub mod Places
 pub mod Words
 pub mod Ranges
 pub mod Arms
+pub mod Wides
 pub mod Zeros
 pub mod Equality
 pub mod Between
 pub mod Exact
+pub mod Floats
 pub mod Halves
 pub mod Made

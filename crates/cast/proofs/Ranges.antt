@@ -1,20 +1,22 @@
--- Ranges by width, and the variant that holds a value of its range: its sign, its width and its value are those it was made of.
+-- Ranges by width, and the variant that holds a value of its range: its width and its value are those it was made of.
 use mathlib.Core.Path.{_≡_, refl, _∙_, sym, ap}
 use mathlib.Core.Bool.{Bool, true, false, false≢true}
 use Prim.Native.Nat.{ℕ, _*_, _^_, _≤_}
 use native.Mathlib.Nat.{lt-of-lt-of-le}
 use native.Mathlib.Omega.{arith}
-use lib.Dec.{T, leb, ltb, leb→le, ltb→lt}
+use lib.Dec.{T, eqb, leb, ltb, leb→le, ltb→lt}
+use lib.Ieee.Bits.{is-true}
 use lib.Pow.{pow-mono}
-use lib.IntN.{ℤ, pos, negsuc}
+use lib.IntN.{ℤ, pos, negsuc, natAbs}
 use lib.Signed.{mag}
 use mir.Syntax.{Sign, unsigned, signed, Width, w8, w16, w32, w64, w128}
 use mir.Val.{bits, hbits, bytes, Fits, SFits, toZ, ofZ}
 use mir.ValLaws.{toZ-ofZ, bits-suc}
-use borrow.Author.Tests.{lt-ltb, ltb-true}
+use borrow.Author.Tests.{lt-ltb, ltb-true, eqb-true}
 use Rattle.types.specs.Values.{value}
 use Rattle.types.proofs.Values.{joined-words}
-use Rattle.cast.specs.Variants.{sign, width, variant, inRange}
+use Rattle.cast.specs.Variants.{width, variant, inRange}
+use Rattle.cast.proofs.Places.{every}
 
 pub signed-fits : (w : Width) (z : ℤ) → inRange signed w z ≡ true → SFits w z
 signed-fits w z h = record { sfits = ltb-true (mag z) (2 ^ hbits w) h }
@@ -27,11 +29,7 @@ fits-unsigned w n f = lt-ltb n (2 ^ bits w) (f .fits)
 
 -- a byte is eight bits
 bits-bytes : (w : Width) → bits w ≡ 8 * bytes w
-bits-bytes w8 = refl
-bits-bytes w16 = refl
-bits-bytes w32 = refl
-bits-bytes w64 = refl
-bits-bytes w128 = refl
+bits-bytes w = eqb-true (bits w) (8 * bytes w) (is-true _ (every (λ (v : Width). eqb (bits v) (8 * bytes v)) tt w))
 
 -- so the order of widths, by bytes, is that of their bits
 bits-le : (v w : Width) → T (leb (bytes v) (bytes w)) → bits v ≤ bits w
@@ -50,22 +48,35 @@ raised : (n i j : ℕ) → i ≤ j → ltb n (2 ^ i) ≡ true → ltb n (2 ^ j) 
 raised n i j h t = lt-ltb n (2 ^ j) (lt-of-lt-of-le (ltb-true n (2 ^ i) t) (pow-mono h))
 
 -- what a width holds, a wider one of the same sign holds
-pub wider : (s : Sign) (v w : Width) → T (leb (bytes v) (bytes w)) → (z : ℤ) → inRange s v z ≡ true → inRange s w z ≡ true
+pub wider : (s : Sign) (v w : Width) → T (leb (bytes v) (bytes w)) → (z : ℤ) → inRange s v z ≡ true →
+    inRange s w z ≡ true
 wider signed v w t z h = raised (mag z) (hbits v) (hbits w) (hbits-le v w t) h
 wider unsigned v w t (pos n) h = raised n (bits v) (bits w) (bits-le v w t) h
 wider unsigned v w t (negsuc n) h = h
 
 -- what an unsigned width holds, every wider signed one holds
-pub wider-signed : (v w : Width) → T (ltb (bytes v) (bytes w)) → (z : ℤ) → inRange unsigned v z ≡ true → inRange signed w z ≡ true
+pub wider-signed : (v w : Width) → T (ltb (bytes v) (bytes w)) → (z : ℤ) → inRange unsigned v z ≡ true →
+    inRange signed w z ≡ true
 wider-signed v w t (pos n) h = raised n (bits v) (hbits w) (bits-hbits v w t) h
 wider-signed v w t (negsuc n) h = absurd (false≢true h)
 
 -- what a signed width holds from 0 up, the unsigned width and every wider one hold
-pub wider-unsigned : (v w : Width) → T (leb (bytes v) (bytes w)) → (n : ℕ) → inRange signed v (pos n) ≡ true → inRange unsigned w (pos n) ≡ true
+pub wider-unsigned : (v w : Width) → T (leb (bytes v) (bytes w)) → (n : ℕ) → inRange signed v (pos n) ≡ true →
+    inRange unsigned w (pos n) ≡ true
 wider-unsigned v w t n h = raised n (hbits v) (bits w) (hbits-bits v w t) h
 
+-- a value of an unsigned range is its magnitude, which fits the machine's number
+pub is-natural : (w : Width) (z : ℤ) → inRange unsigned w z ≡ true → pos (natAbs z) ≡ z
+is-natural w (pos n) h = refl
+is-natural w (negsuc n) h = absurd (false≢true h)
+
+pub natural-fits : (w : Width) (z : ℤ) → inRange unsigned w z ≡ true → Fits w (natAbs z)
+natural-fits w (pos n) h = record { fits = ltb-true n (2 ^ bits w) h }
+natural-fits w (negsuc n) h = absurd (false≢true h)
+
 -- and what a width does not hold, no narrower one of the same sign holds
-pub narrower : (s : Sign) (v w : Width) → T (leb (bytes v) (bytes w)) → (z : ℤ) → inRange s w z ≡ false → inRange s v z ≡ false
+pub narrower : (s : Sign) (v w : Width) → T (leb (bytes v) (bytes w)) → (z : ℤ) → inRange s w z ≡ false →
+    inRange s v z ≡ false
 narrower s v w t z h = by (inRange s v z) refl
   where
     by : (b : Bool) → inRange s v z ≡ b → inRange s v z ≡ false
@@ -73,18 +84,6 @@ narrower s v w t z h = by (inRange s v z) refl
     by false e = e
 
 -- ---- the variant that holds a value
-
-pub variant-sign : (s : Sign) (w : Width) (z : ℤ) → sign (variant s w z) ≡ s
-variant-sign signed w8 z = refl
-variant-sign signed w16 z = refl
-variant-sign signed w32 z = refl
-variant-sign signed w64 z = refl
-variant-sign signed w128 z = refl
-variant-sign unsigned w8 z = refl
-variant-sign unsigned w16 z = refl
-variant-sign unsigned w32 z = refl
-variant-sign unsigned w64 z = refl
-variant-sign unsigned w128 z = refl
 
 pub variant-width : (s : Sign) (w : Width) (z : ℤ) → width (variant s w z) ≡ w
 variant-width signed w8 z = refl

@@ -1,4 +1,5 @@
--- Two words and the number that they stand for are each other's inverse. Rests on the laws of digits, at the base 2 ^ 64.
+-- Two words and the number that they stand for are each other's inverse. Rests on the laws of digits, at the base
+-- 2 ^ 64.
 use mathlib.Core.Path.{_≡_, refl, _∙_, sym, ap}
 use Prim.Native.Nat.{ℕ, suc, _+_, _-_, _*_, _^_, _≤_, _<_}
 use native.Mathlib.Nat.{mod-eq-of-lt, div-eq-of-lt, le-trans, mul-le-mul-right, le-add-right, suc-mul}
@@ -26,7 +27,14 @@ words-joined w h = pair _ _ w (digits-mod (w .hi) (h .0)) (digits-div (w .hi) (h
 pub joined-fits : (w : Wide) → Held w → Fits w128 (joined w)
 joined-fits w h = record { fits = digits-lt (h .1) (h .0) }
 
--- the same for the signed number
+-- the high word is 0, or it is not
+pub low-only : (w : Wide) → w .hi ≡ 0 → joined w ≡ w .lo
+low-only w e = omega arith
+
+pub high-word : (w : Wide) → (w .hi ≡ 0 → ⊥) → 2 ^ 64 ≤ joined w
+high-word w n = omega arith
+
+-- the words of the signed number
 pub wide-back : (w : Wide) → Held w → wideOf (toZ w128 (joined w)) ≡ w
 wide-back w h = ap words (ofZ-toZ w128 (joined w) (joined-fits w h)) ∙ words-joined w h
 
@@ -52,5 +60,6 @@ ones-below m q n e h = let k : m * m ≡ q * m + m = ap (λ (x : ℕ). x * m) e 
 pub negative-words : (n : ℕ) → n < 2 ^ 64 → record { lo = 2 ^ 64 - 1 - n; hi = 2 ^ 64 - 1 } ≡ words (2 ^ 128 - suc n)
 negative-words n h =
     let k : 2 ^ 64 - 1 - n < 2 ^ 64 = omega arith in
+    let w : Wide = record { lo = 2 ^ 64 - 1 - n; hi = 2 ^ 64 - 1 } in
     sym (ap words (ones-below (2 ^ 64) (2 ^ 64 - 1) n refl h)
-    ∙ pair _ _ (record { lo = 2 ^ 64 - 1 - n; hi = 2 ^ 64 - 1 }) (digits-mod (2 ^ 64 - 1) k) (digits-div (2 ^ 64 - 1) k))
+    ∙ pair _ _ w (digits-mod (2 ^ 64 - 1) k) (digits-div (2 ^ 64 - 1) k))

@@ -1,11 +1,10 @@
 -- `cast::wide_of_u64` meets its contract: the words of a number of 64 bits.
-use Rattle.cast.proofs.Words.{small-words}
-use native.Mathlib.Omega.{arith}
+use Rattle.cast.proofs.Wides.{wide-of-ends}
 use Rattle.cast.proofs.wide_of_u64.Statement.{statement}
 use Rattle.cast.proofs.wide_of_u64.Tie as tie
 
-returns : tie.Need-returns
-returns c = small-words (c .args .value) (omega arith)
-
 pub wide-of-u64-spec : {M : Type 1} → statement M
-wide-of-u64-spec = tie.close (tie.spec returns)
+wide-of-u64-spec =
+    tie.close
+    (tie.spec
+    (λ c. search wide-of-ends))
