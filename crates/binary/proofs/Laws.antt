@@ -54,7 +54,7 @@ narrowed-infinite from to b s h = ap (narrowedMeaning to) h
 
 -- ---- widening keeps the sign and the magnitude
 
-module _ {narrow wide : Layout} (W : Widens narrow wide) where
+module _ {narrow wide : Layout} {lift more : ℕ} (W : Widens narrow wide lift more) where
   widened-number : (b : ℕ) → Reading narrow b → Number (meaning narrow b)
       → (widened narrow wide b < 2 * signWeight wide) × (meaning wide (widened narrow wide b) ≡ meaning narrow b)
   widened-number b (is-finite e m) n =
@@ -127,7 +127,7 @@ widened-nan from to b s t p h =
     ∙ meant-nan to s (allOnes to) u refl (quieted-pos (2 ^ (to .fractionBits - 1)) (t * 2 ^ (to .fractionBits - from .fractionBits) % 2 ^ (to .fractionBits - 1)) (pow-pos (to .fractionBits - 1)))
 
 -- a widened pattern, a NaN's too, is one of the wider format
-pub widened-in : {narrow wide : Layout} (W : Widens narrow wide) → 0 < wide .fractionBits → (b : ℕ) → widened narrow wide b < 2 * signWeight wide
+pub widened-in : {narrow wide : Layout} {lift more : ℕ} (W : Widens narrow wide lift more) → 0 < wide .fractionBits → (b : ℕ) → widened narrow wide b < 2 * signWeight wide
 widened-in {narrow} {wide} W p b = go (reading narrow b)
   where
     go : Reading narrow b → widened narrow wide b < 2 * signWeight wide

@@ -58,7 +58,7 @@ exponent-le f b =
 pub fraction-lt : (f : Layout) (b : ℕ) → fraction f b < leading f
 fraction-lt f b = mod-lt b (pow-pos (f .fractionBits))
 
-two-fields : (f : Layout) (b : ℕ) → exponent f b * leading f + fraction f b ≡ b % signWeight f
+pub two-fields : (f : Layout) (b : ℕ) → exponent f b * leading f + fraction f b ≡ b % signWeight f
 two-fields f b =
     ap (λ (y : ℕ). exponent f b * leading f + y)
     (sym (ap (λ (x : ℕ). b % x % leading f) (weight-is f) ∙ mod-mod-of-dvd (leading f) b (dvd-mul-left (leading f) (2 ^ f .exponentBits))))

@@ -1,0 +1,256 @@
+-- The ends of the conversions between formats, over the formats: what the code has in hand at each, and what it answers.
+use mathlib.Core.Path.{_≡_, sym, ap, _∙_, subst}
+use Prim.Native.Nat.{ℕ, suc, _+_, _-_, _*_, _/_, _%_, _^_, _≤_, _<_}
+use native.Mathlib.Nat.{le-trans, add-zero, zero-mul, lt-of-lt-of-le, lt-of-le-of-lt, mod-eq-of-lt, div-mul-le-self}
+use native.Mathlib.Omega.{arith}
+use borrow.Author.Needs.{needs}
+use lib.Count.{leadingZeros}
+use lib.Pow.{pow-pos, pow-mono}
+use mir.Syntax.{Width}
+use mir.Val.{Fits, bits}
+use Rattle.binary.specs.Formats.{Layout, leading, signWeight, allOnes, negative, exponent, fraction, magnitude}
+use Rattle.binary.specs.Conversions.{signed, infinity, candidate, quieted, widened}
+use Rattle.binary.specs.Conversions.{Narrowed, exact, lost, narrowed, answer16, answer32}
+use Rattle.binary.specs.declared.Narrowed16 as N16
+use Rattle.binary.specs.declared.Narrowed32 as N32
+use Rattle.binary.proofs.Smallests.{same-parts}
+use Rattle.binary.proofs.Patterns.{fraction-lt, exponent-le, two-fields, signed-lt}
+use Rattle.binary.proofs.Narrowing.{gives-infinity}
+use Rattle.binary.proofs.Widening.{widens-to-candidate, widens-to, widens-infinity, widens-nan}
+use Rattle.binary.proofs.Widths.{Widens, half-single, single-double, kept-normal, moved-lt}
+use Rattle.binary.proofs.Steps.{sign-is, narrow-normal, normal-lost, top-lost, narrow-subnormal, subnormal-lost}
+use Rattle.binary.proofs.Steps.{kept-lt, low-lost, narrow-zero, significand, shift-back}
+use Rattle.binary.proofs.Steps.{zero-is, up-counted, up-le, raised-code, lifted-lt}
+
+-- a pattern's sign, at its place in another format
+sign-moved : (from to : Layout) (b r : ℕ) → b < 2 * signWeight from →
+    b / signWeight from * signWeight to + r ≡ signed to (negative from b) r
+sign-moved from to b r h =
+    ap (λ (x : ℕ). x + r) (sign-is (signWeight from) (signWeight to) b (pow-pos (from .exponentBits + from .fractionBits)) h)
+
+under-sign : (f : Layout) → leading f ≤ signWeight f
+under-sign f = pow-mono {i = f .fractionBits} {j = f .exponentBits + f .fractionBits} (omega arith)
+
+-- the fields of a pattern whose rest is an exponent's field alone
+alone : (f : Layout) (b e : ℕ) → b % signWeight f ≡ e * leading f → (exponent f b ≡ e) × (fraction f b ≡ 0)
+alone f b e h =
+    same-parts (leading f) (exponent f b) (fraction f b) e 0 (fraction-lt f b) (pow-pos (f .fractionBits))
+    (two-fields f b ∙ h ∙ sym (add-zero (e * leading f)))
+
+not-alone : (f : Layout) (b e : ℕ) → (b % signWeight f ≡ e * leading f → ⊥) → exponent f b ≡ e → fraction f b ≡ 0 → ⊥
+not-alone f b e n p q =
+    n (sym (two-fields f b) ∙ ap (λ (x : ℕ). x * leading f + fraction f b) p ∙ ap (λ (x : ℕ). e * leading f + x) q
+    ∙ add-zero (e * leading f))
+
+-- ---- narrowing: the answer is a pattern, or none
+
+pub pattern16 : (r : ℕ) (n : Narrowed) → exact r ≡ n → N16.the-variants.Pattern r ≡ answer16 n
+pattern16 r n e = ap answer16 e
+
+pub none16 : (n : Narrowed) → lost ≡ n → N16.the-variants.None ≡ answer16 n
+none16 n e = ap answer16 e
+
+pub pattern32 : (r : ℕ) (n : Narrowed) → exact r ≡ n → N32.the-variants.Pattern r ≡ answer32 n
+pattern32 r n e = ap answer32 e
+
+pub none32 : (n : Narrowed) → lost ≡ n → N32.the-variants.None ≡ answer32 n
+none32 n e = ap answer32 e
+
+module _ (narrow wide : Layout) (lift more : ℕ) (W : Widens narrow wide lift more) (b : ℕ) where
+  -- a pattern with that rest is the answer
+  answered : (r rest : ℕ) → b < 2 * signWeight wide → narrowed wide narrow b ≡ exact (signed narrow (negative wide b) rest) →
+      r ≡ b / signWeight wide * signWeight narrow + rest → exact r ≡ narrowed wide narrow b
+  answered r rest B e q = ap exact (q ∙ sign-moved wide narrow b rest B) ∙ sym e
+
+  -- a normal number of the narrower format, if the digits that it drops are zeros
+  module _ (above : lift < exponent wide b) (under : exponent wide b < allOnes narrow + lift) where
+    pub normal-exact : (r : ℕ) → b < 2 * signWeight wide → fraction wide b % 2 ^ more ≡ 0 →
+        r ≡ b / signWeight wide * signWeight narrow + ((exponent wide b - lift) * leading narrow + fraction wide b / 2 ^ more) →
+        exact r ≡ narrowed wide narrow b
+    normal-exact r B z q =
+        answered r ((exponent wide b - lift) * leading narrow + fraction wide b / 2 ^ more) B (narrow-normal W b above under z) q
+
+    pub normal-none : (fraction wide b % 2 ^ more ≡ 0 → ⊥) → lost ≡ narrowed wide narrow b
+    normal-none n = sym (normal-lost W b above (omega (arith, W .high)) n)
+
+  -- past those: the infinity, and what is too large or a NaN
+  module _ (over : allOnes narrow + lift ≤ exponent wide b) where
+    pub infinity-exact : (r : ℕ) → b < 2 * signWeight wide → b % signWeight wide ≡ infinity wide →
+        r ≡ b / signWeight wide * signWeight narrow + infinity narrow → exact r ≡ narrowed wide narrow b
+    infinity-exact r B i q =
+        let k = alone wide b (allOnes wide) i in
+        answered r (infinity narrow) B (gives-infinity wide narrow b (k .0) (k .1)) q
+
+    pub large-none : (b % signWeight wide ≡ infinity wide → ⊥) → lost ≡ narrowed wide narrow b
+    large-none n = sym (top-lost W b over (not-alone wide b (allOnes wide) n))
+
+  -- a subnormal number of the narrower format, if the digits that the significand drops are zeros
+  module _ (below : exponent wide b ≤ lift) (near : lift - narrow .fractionBits < exponent wide b) where
+    abbrev pub down : ℕ
+    down = suc lift + more - exponent wide b
+
+    down-is : down + exponent wide b ≡ suc lift + more
+    down-is = omega arith
+
+    close-by : lift < exponent wide b + narrow .fractionBits
+    close-by = omega (arith, W .deep)
+
+    abbrev kept : ℕ
+    kept = significand wide b / 2 ^ down
+
+    shifted-back : kept * 2 ^ down % (2 * signWeight wide) ≡ kept * 2 ^ down
+    shifted-back =
+        let s : significand wide b < 2 * signWeight wide = omega (arith, fraction-lt wide b, under-sign wide) in
+        mod-eq-of-lt (lt-of-le-of-lt (div-mul-le-self (significand wide b) (2 ^ down)) s)
+
+    pub subnormal-exact : (r : ℕ) → b < 2 * signWeight wide →
+        significand wide b / 2 ^ down * 2 ^ down % (2 * signWeight wide) ≡ significand wide b →
+        r ≡ b / signWeight wide * signWeight narrow + significand wide b / 2 ^ down → exact r ≡ narrowed wide narrow b
+    subnormal-exact r B z q =
+        answered r kept B (narrow-subnormal W b down down-is below close-by (sym shifted-back ∙ z)) q
+
+    pub subnormal-none : (significand wide b / 2 ^ down * 2 ^ down % (2 * signWeight wide) ≡ significand wide b → ⊥) →
+        lost ≡ narrowed wide narrow b
+    subnormal-none n = sym (subnormal-lost W b down down-is below close-by (λ z. n (shifted-back ∙ z)))
+
+    -- its pattern fits where those of the narrower format do
+    pub subnormal-fits : (w : Width) (r : ℕ) → b < 2 * signWeight wide → 2 * signWeight narrow ≤ 2 ^ bits w →
+        r ≡ b / signWeight wide * signWeight narrow + significand wide b / 2 ^ down → Fits w r
+    subnormal-fits w r B room q =
+        let k : kept < signWeight narrow = lt-of-lt-of-le (kept-lt W b down down-is below close-by) (under-sign narrow) in
+        record { fits = lt-of-lt-of-le (rw (q, sign-moved wide narrow b kept B) (signed-lt narrow (negative wide b) kept k)) room }
+
+  -- below those: zero, and what is too small
+  module _ (low : exponent wide b ≤ lift - narrow .fractionBits) where
+    pub zero-exact : (r : ℕ) → b < 2 * signWeight wide → b % signWeight wide ≡ 0 →
+        r ≡ b / signWeight wide * signWeight narrow → exact r ≡ narrowed wide narrow b
+    zero-exact r B z q =
+        let k = alone wide b 0 (z ∙ sym (zero-mul (leading wide))) in
+        answered r 0 B (narrow-zero W b (k .0) (k .1)) (q ∙ sym (add-zero (b / signWeight wide * signWeight narrow)))
+
+    pub small-none : (b % signWeight wide ≡ 0 → ⊥) → lost ≡ narrowed wide narrow b
+    small-none n =
+        sym (low-lost W b (omega (arith, W .deep)) (not-alone wide b 0 (λ e. n (e ∙ zero-mul (leading wide)))))
+
+-- ---- widening a subnormal number, moved up until its leading digit is where a normal number has it
+
+-- how many digits a pattern has, and how far up a fraction goes, by the zeros above it in so many digits
+abbrev pub digits : Layout → ℕ
+digits f = suc (f .exponentBits + f .fractionBits)
+
+abbrev pub up : Layout → Layout → ℕ → ℕ
+up narrow wide t = leadingZeros (digits wide) t - (digits wide - suc (narrow .fractionBits))
+
+module _ (narrow wide : Layout) (lift more : ℕ) (W : Widens narrow wide lift more) (t : ℕ) where
+  -- no digit
+  pub zero-raised : t ≡ 0 → 0 ≡ candidate wide (magnitude narrow 0 t)
+  zero-raised z = sym (ap (λ (x : ℕ). candidate wide (magnitude narrow 0 x)) z ∙ zero-is W)
+
+  module _ (T : t < leading narrow) (n : t ≡ 0 → ⊥) where
+    some : 0 < t
+    some = omega arith
+
+    room : narrow .fractionBits < digits wide
+    room = omega (arith, W .fractions)
+
+    own : wide .fractionBits < digits wide
+    own = omega arith
+
+    -- as many zeros are above it as the wider pattern has digits more
+    pub zeros-enough : (k z : ℕ) → k ≡ digits wide - suc (narrow .fractionBits) → z ≡ leadingZeros (digits wide) t → k ≤ z
+    zeros-enough k z q e = rw (q, e) (up-counted W (digits wide) (digits wide) t room own some T)
+
+    -- it goes up by no more places than a fraction has digits
+    low : (j : ℕ) → j ≡ up narrow wide t → j ≤ narrow .fractionBits
+    low j q = rw q (up-le W (digits wide) (digits wide) t room own some T)
+
+    pub up-small : (j k : ℕ) → j ≡ up narrow wide t → narrow .fractionBits ≤ k → j ≤ k
+    up-small j k q h = le-trans (low j q) h
+
+    pub up-fits : (w : Width) (j d : ℕ) → j ≡ up narrow wide t → narrow .fractionBits + d < 2 ^ bits w → Fits w (j + d)
+    up-fits w j d q h = record { fits = omega (arith, low j q) }
+
+    pub up-under : (j d k : ℕ) → j ≡ up narrow wide t → narrow .fractionBits + d < k → j + d < k
+    up-under j d k q h = omega (arith, low j q)
+
+    -- where it is then, it is the number
+    pub raised : (r : ℕ) →
+        r ≡ (lift - up narrow wide t) * leading wide + t * 2 ^ (up narrow wide t + more) % 2 ^ digits wide →
+        r ≡ candidate wide (magnitude narrow 0 t)
+    raised r q = q ∙ raised-code W (digits wide) (digits wide) t room own some T
+
+    pub raised-fits : (w : Width) (r : ℕ) → signWeight wide ≤ 2 ^ bits w →
+        r ≡ (lift - up narrow wide t) * leading wide + t * 2 ^ (up narrow wide t + more) % 2 ^ digits wide → Fits w r
+    raised-fits w r h q =
+        let l : r < signWeight wide = rw (raised r q) (lifted-lt W 0 t (W .some) T) in
+        record { fits = lt-of-lt-of-le l h }
+
+-- ---- widening
+
+module _ (narrow wide : Layout) (lift more : ℕ) (W : Widens narrow wide lift more) (b : ℕ) (B : b < 2 * signWeight narrow) where
+  -- a pattern with that rest is the answer
+  widened-is : (r rest : ℕ) → widened narrow wide b ≡ signed wide (negative narrow b) rest →
+      r ≡ b / signWeight narrow * signWeight wide + rest → r ≡ widened narrow wide b
+  widened-is r rest e q = q ∙ sign-moved narrow wide b rest B ∙ sym e
+
+  -- a subnormal number, or zero
+  module _ (rest : ℕ) (s : rest ≡ candidate wide (magnitude narrow 0 (fraction narrow b))) where
+    pub subnormal-wide : (r : ℕ) → exponent narrow b ≡ 0 → r ≡ b / signWeight narrow * signWeight wide + rest →
+        r ≡ widened narrow wide b
+    subnormal-wide r z q =
+        widened-is r rest (widens-to-candidate narrow wide b (rw z (W .some)) ∙ rw (z, ← s)) q
+
+    pub subnormal-sum-fits : (w : Width) (sign : ℕ) → 2 * signWeight wide ≤ 2 ^ bits w →
+        sign ≡ b / signWeight narrow * signWeight wide → Fits w (sign + rest)
+    subnormal-sum-fits w sign h q =
+        let l : rest < signWeight wide = rw s (lifted-lt W 0 (fraction narrow b) (W .some) (fraction-lt narrow b)) in
+        record { fits = lt-of-lt-of-le (rw (q, sign-moved narrow wide b rest B) (signed-lt wide (negative narrow b) rest l)) h }
+
+  -- a normal number
+  pub normal-wide : (r : ℕ) → (exponent narrow b ≡ 0 → ⊥) → exponent narrow b < allOnes narrow →
+      r ≡ b / signWeight narrow * signWeight wide + ((exponent narrow b + lift) * leading wide + fraction narrow b * 2 ^ more) →
+      r ≡ widened narrow wide b
+  normal-wide r n h q =
+      let e = exponent narrow b in
+      let t = fraction narrow b in
+      widened-is r ((e + lift) * leading wide + t * 2 ^ more)
+      (widens-to narrow wide b (e + lift) (t * 2 ^ more) h (moved-lt W t (fraction-lt narrow b)) (kept-normal W e t (omega arith))) q
+
+  -- the infinity, and a NaN
+  module _ (over : allOnes narrow ≤ exponent narrow b) (r : ℕ) where
+    all-ones : exponent narrow b ≡ allOnes narrow
+    all-ones = omega (arith, exponent-le narrow b)
+
+    pub infinity-wide : fraction narrow b ≡ 0 → r ≡ b / signWeight narrow * signWeight wide + infinity wide →
+        r ≡ widened narrow wide b
+    infinity-wide z q = widened-is r (infinity wide) (widens-infinity narrow wide b all-ones z) q
+
+    pub nan-wide : (fraction narrow b ≡ 0 → ⊥) →
+        r ≡ b / signWeight narrow * signWeight wide
+        + (infinity wide + quieted wide (fraction narrow b * 2 ^ (wide .fractionBits - narrow .fractionBits))) →
+        r ≡ widened narrow wide b
+    nan-wide n q =
+        widened-is r (infinity wide + quieted wide (fraction narrow b * 2 ^ (wide .fractionBits - narrow .fractionBits)))
+        (widens-nan narrow wide b all-ones n) q
+
+pub ruleset narrow-normal-ends = (normal-exact, normal-none, infinity-exact, large-none)
+
+pub ruleset narrow-low-ends = (subnormal-exact, subnormal-none, subnormal-fits, zero-exact, small-none)
+
+pub ruleset narrow-ends = (pattern16, none16, pattern32, none32, narrow-normal-ends, narrow-low-ends, needs)
+
+pub ruleset raise-ends = (zero-raised, zeros-enough, up-small, up-fits, up-under, raised, raised-fits, needs)
+
+pub ruleset widen-ends = (subnormal-wide, subnormal-sum-fits, normal-wide, infinity-wide, nan-wide, needs)
+
+pub ruleset to-half-ends = (half-single, narrow-ends)
+
+pub ruleset to-single-ends = (single-double, narrow-ends)
+
+pub ruleset raise-half-ends = (half-single, raise-ends)
+
+pub ruleset raise-single-ends = (single-double, raise-ends)
+
+pub ruleset widen-half-ends = (half-single, widen-ends)
+
+pub ruleset widen-single-ends = (single-double, widen-ends)
