@@ -1,7 +1,8 @@
--- The ends of the conversions between formats, over the formats: what the code has in hand at each, and what it answers.
-use mathlib.Core.Path.{_≡_, sym, ap, _∙_, subst}
+-- The ends of the conversions between formats, over the formats: what the code has in hand at each, and what it
+-- answers.
+use mathlib.Core.Path.{_≡_, sym, ap, _∙_}
 use Prim.Native.Nat.{ℕ, suc, _+_, _-_, _*_, _/_, _%_, _^_, _≤_, _<_}
-use native.Mathlib.Nat.{le-trans, add-zero, zero-mul, lt-of-lt-of-le, lt-of-le-of-lt, mod-eq-of-lt, div-mul-le-self}
+use native.Mathlib.Nat.{le-trans, add-zero, zero-mul, lt-of-lt-of-le, mod-eq-of-lt, pow-suc}
 use native.Mathlib.Omega.{arith}
 use borrow.Author.Needs.{needs}
 use lib.Count.{leadingZeros}
@@ -20,13 +21,18 @@ use Rattle.binary.proofs.Widening.{widens-to-candidate, widens-to, wide
 use Rattle.binary.proofs.Widths.{Widens, half-single, single-double, kept-normal, moved-lt}
 use Rattle.binary.proofs.Steps.{sign-is, narrow-normal, normal-lost, top-lost, narrow-subnormal, subnormal-lost}
 use Rattle.binary.proofs.Steps.{kept-lt, low-lost, narrow-zero, significand, shift-back}
-use Rattle.binary.proofs.Steps.{zero-is, up-counted, up-le, raised-code, lifted-lt}
+use Rattle.binary.proofs.Steps.{ZerosAbove, zeros-above, zero-is, raised-is, raised-under, lifted-lt}
+
+-- how many digits a pattern has
+abbrev pub digits : Layout → ℕ
+digits f = suc (f .exponentBits + f .fractionBits)
 
 -- a pattern's sign, at its place in another format
 sign-moved : (from to : Layout) (b r : ℕ) → b < 2 * signWeight from →
     b / signWeight from * signWeight to + r ≡ signed to (negative from b) r
 sign-moved from to b r h =
-    ap (λ (x : ℕ). x + r) (sign-is (signWeight from) (signWeight to) b (pow-pos (from .exponentBits + from .fractionBits)) h)
+    ap (λ (x : ℕ). x + r)
+    (sign-is (signWeight from) (signWeight to) b (pow-pos (from .exponentBits + from .fractionBits)) h)
 
 under-sign : (f : Layout) → leading f ≤ signWeight f
 under-sign f = pow-mono {i = f .fractionBits} {j = f .exponentBits + f .fractionBits} (omega arith)
@@ -58,17 +64,20 @@ none32 n e = ap answer32 e
 
 module _ (narrow wide : Layout) (lift more : ℕ) (W : Widens narrow wide lift more) (b : ℕ) where
   -- a pattern with that rest is the answer
-  answered : (r rest : ℕ) → b < 2 * signWeight wide → narrowed wide narrow b ≡ exact (signed narrow (negative wide b) rest) →
+  answered : (r rest : ℕ) → b < 2 * signWeight wide →
+      narrowed wide narrow b ≡ exact (signed narrow (negative wide b) rest) →
       r ≡ b / signWeight wide * signWeight narrow + rest → exact r ≡ narrowed wide narrow b
   answered r rest B e q = ap exact (q ∙ sign-moved wide narrow b rest B) ∙ sym e
 
   -- a normal number of the narrower format, if the digits that it drops are zeros
   module _ (above : lift < exponent wide b) (under : exponent wide b < allOnes narrow + lift) where
     pub normal-exact : (r : ℕ) → b < 2 * signWeight wide → fraction wide b % 2 ^ more ≡ 0 →
-        r ≡ b / signWeight wide * signWeight narrow + ((exponent wide b - lift) * leading narrow + fraction wide b / 2 ^ more) →
+        r ≡ b / signWeight wide * signWeight
+        narrow + ((exponent wide b - lift) * leading narrow + fraction wide b / 2 ^ more) →
         exact r ≡ narrowed wide narrow b
     normal-exact r B z q =
-        answered r ((exponent wide b - lift) * leading narrow + fraction wide b / 2 ^ more) B (narrow-normal W b above under z) q
+        answered r ((exponent wide b - lift) * leading narrow + fraction wide b / 2 ^ more) B
+        (narrow-normal W b above under z) q
 
     pub normal-none : (fraction wide b % 2 ^ more ≡ 0 → ⊥) → lost ≡ narrowed wide narrow b
     normal-none n = sym (normal-lost W b above (omega (arith, W .high)) n)
@@ -98,18 +107,19 @@ module _ (narrow wide : Layout) (lift more : ℕ) (W : Widens narrow wide lift m
     abbrev kept : ℕ
     kept = significand wide b / 2 ^ down
 
-    shifted-back : kept * 2 ^ down % (2 * signWeight wide) ≡ kept * 2 ^ down
+    shifted-back : kept * 2 ^ down % 2 ^ digits wide ≡ kept * 2 ^ down
     shifted-back =
-        let s : significand wide b < 2 * signWeight wide = omega (arith, fraction-lt wide b, under-sign wide) in
-        mod-eq-of-lt (lt-of-le-of-lt (div-mul-le-self (significand wide b) (2 ^ down)) s)
+        let s : significand wide b < 2 ^ digits wide =
+        omega (arith, fraction-lt wide b, under-sign wide, pow-suc 2 (wide .exponentBits + wide .fractionBits)) in
+        shift-back (significand wide b) down (digits wide) s
 
     pub subnormal-exact : (r : ℕ) → b < 2 * signWeight wide →
-        significand wide b / 2 ^ down * 2 ^ down % (2 * signWeight wide) ≡ significand wide b →
+        significand wide b / 2 ^ down * 2 ^ down % 2 ^ digits wide ≡ significand wide b →
         r ≡ b / signWeight wide * signWeight narrow + significand wide b / 2 ^ down → exact r ≡ narrowed wide narrow b
     subnormal-exact r B z q =
         answered r kept B (narrow-subnormal W b down down-is below close-by (sym shifted-back ∙ z)) q
 
-    pub subnormal-none : (significand wide b / 2 ^ down * 2 ^ down % (2 * signWeight wide) ≡ significand wide b → ⊥) →
+    pub subnormal-none : (significand wide b / 2 ^ down * 2 ^ down % 2 ^ digits wide ≡ significand wide b → ⊥) →
         lost ≡ narrowed wide narrow b
     subnormal-none n = sym (subnormal-lost W b down down-is below close-by (λ z. n (shifted-back ∙ z)))
 
@@ -117,8 +127,12 @@ module _ (narrow wide : Layout) (lift more : ℕ) (W : Widens narrow wide lift m
     pub subnormal-fits : (w : Width) (r : ℕ) → b < 2 * signWeight wide → 2 * signWeight narrow ≤ 2 ^ bits w →
         r ≡ b / signWeight wide * signWeight narrow + significand wide b / 2 ^ down → Fits w r
     subnormal-fits w r B room q =
-        let k : kept < signWeight narrow = lt-of-lt-of-le (kept-lt W b down down-is below close-by) (under-sign narrow) in
-        record { fits = lt-of-lt-of-le (rw (q, sign-moved wide narrow b kept B) (signed-lt narrow (negative wide b) kept k)) room }
+        let k : kept < signWeight narrow =
+        lt-of-lt-of-le (kept-lt W b down down-is below close-by) (under-sign narrow) in
+        record {
+          fits = lt-of-lt-of-le
+              (rw (q, sign-moved wide narrow b kept B) (signed-lt narrow (negative wide b) kept k)) room;
+        }
 
   -- below those: zero, and what is too small
   module _ (low : exponent wide b ≤ lift - narrow .fractionBits) where
@@ -134,10 +148,7 @@ module _ (narrow wide : Layout) (lift more : ℕ) (W : Widens narrow wide lift m
 
 -- ---- widening a subnormal number, moved up until its leading digit is where a normal number has it
 
--- how many digits a pattern has, and how far up a fraction goes, by the zeros above it in so many digits
-abbrev pub digits : Layout → ℕ
-digits f = suc (f .exponentBits + f .fractionBits)
-
+-- how far up a fraction goes, by the zeros above it in the digits of the wider pattern
 abbrev pub up : Layout → Layout → ℕ → ℕ
 up narrow wide t = leadingZeros (digits wide) t - (digits wide - suc (narrow .fractionBits))
 
@@ -150,19 +161,23 @@ module _ (narrow wide : Layout) (lift more : ℕ) (W : Widens narrow wide lift m
     some : 0 < t
     some = omega arith
 
-    room : narrow .fractionBits < digits wide
-    room = omega (arith, W .fractions)
+    zeros : ZerosAbove (digits wide) (narrow .fractionBits) t
+    zeros = zeros-above (digits wide) (narrow .fractionBits) t (omega (arith, W .fractions)) some T
 
-    own : wide .fractionBits < digits wide
-    own = omega arith
+    -- the move loses no digit
+    whole : t * 2 ^ (up narrow wide t + more) % 2 ^ digits wide ≡ t * 2 ^ (up narrow wide t + more)
+    whole =
+        mod-eq-of-lt (lt-of-lt-of-le (raised-under W (up narrow wide t) t (zeros .3))
+        (pow-mono {i = suc (wide .fractionBits)} {j = digits wide} (omega arith)))
 
     -- as many zeros are above it as the wider pattern has digits more
-    pub zeros-enough : (k z : ℕ) → k ≡ digits wide - suc (narrow .fractionBits) → z ≡ leadingZeros (digits wide) t → k ≤ z
-    zeros-enough k z q e = rw (q, e) (up-counted W (digits wide) (digits wide) t room own some T)
+    pub zeros-enough : (k z : ℕ) → k ≡ digits wide - suc (narrow .fractionBits) → z ≡ leadingZeros (digits wide) t →
+        k ≤ z
+    zeros-enough k z q e = rw (q, e) (zeros .0)
 
     -- it goes up by no more places than a fraction has digits
     low : (j : ℕ) → j ≡ up narrow wide t → j ≤ narrow .fractionBits
-    low j q = rw q (up-le W (digits wide) (digits wide) t room own some T)
+    low j q = rw q (zeros .1)
 
     pub up-small : (j k : ℕ) → j ≡ up narrow wide t → narrow .fractionBits ≤ k → j ≤ k
     up-small j k q h = le-trans (low j q) h
@@ -177,7 +192,9 @@ module _ (narrow wide : Layout) (lift more : ℕ) (W : Widens narrow wide lift m
     pub raised : (r : ℕ) →
         r ≡ (lift - up narrow wide t) * leading wide + t * 2 ^ (up narrow wide t + more) % 2 ^ digits wide →
         r ≡ candidate wide (magnitude narrow 0 t)
-    raised r q = q ∙ raised-code W (digits wide) (digits wide) t room own some T
+    raised r q =
+        q ∙ ap (λ (x : ℕ). (lift - up narrow wide t) * leading wide + x) whole
+        ∙ raised-is W (up narrow wide t) t (le-trans (zeros .1) (W .deep)) (zeros .2) (zeros .3)
 
     pub raised-fits : (w : Width) (r : ℕ) → signWeight wide ≤ 2 ^ bits w →
         r ≡ (lift - up narrow wide t) * leading wide + t * 2 ^ (up narrow wide t + more) % 2 ^ digits wide → Fits w r
@@ -204,17 +221,22 @@ module _ (narrow wide : Layout) (lift more : ℕ) (W : Widens narrow wide lift m
         sign ≡ b / signWeight narrow * signWeight wide → Fits w (sign + rest)
     subnormal-sum-fits w sign h q =
         let l : rest < signWeight wide = rw s (lifted-lt W 0 (fraction narrow b) (W .some) (fraction-lt narrow b)) in
-        record { fits = lt-of-lt-of-le (rw (q, sign-moved narrow wide b rest B) (signed-lt wide (negative narrow b) rest l)) h }
+        record {
+          fits = lt-of-lt-of-le
+              (rw (q, sign-moved narrow wide b rest B) (signed-lt wide (negative narrow b) rest l)) h;
+        }
 
   -- a normal number
   pub normal-wide : (r : ℕ) → (exponent narrow b ≡ 0 → ⊥) → exponent narrow b < allOnes narrow →
-      r ≡ b / signWeight narrow * signWeight wide + ((exponent narrow b + lift) * leading wide + fraction narrow b * 2 ^ more) →
+      r ≡ b / signWeight narrow * signWeight
+      wide + ((exponent narrow b + lift) * leading wide + fraction narrow b * 2 ^ more) →
       r ≡ widened narrow wide b
   normal-wide r n h q =
       let e = exponent narrow b in
       let t = fraction narrow b in
       widened-is r ((e + lift) * leading wide + t * 2 ^ more)
-      (widens-to narrow wide b (e + lift) (t * 2 ^ more) h (moved-lt W t (fraction-lt narrow b)) (kept-normal W e t (omega arith))) q
+      (widens-to narrow wide b (e + lift) (t * 2 ^ more) h (moved-lt W t (fraction-lt narrow b))
+      (kept-normal W e t (omega arith))) q
 
   -- the infinity, and a NaN
   module _ (over : allOnes narrow ≤ exponent narrow b) (r : ℕ) where
@@ -230,7 +252,8 @@ module _ (narrow wide : Layout) (lift more : ℕ) (W : Widens narrow wide lift m
         + (infinity wide + quieted wide (fraction narrow b * 2 ^ (wide .fractionBits - narrow .fractionBits))) →
         r ≡ widened narrow wide b
     nan-wide n q =
-        widened-is r (infinity wide + quieted wide (fraction narrow b * 2 ^ (wide .fractionBits - narrow .fractionBits)))
+        widened-is r
+        (infinity wide + quieted wide (fraction narrow b * 2 ^ (wide .fractionBits - narrow .fractionBits)))
         (widens-nan narrow wide b all-ones n) q
 
 pub ruleset narrow-normal-ends = (normal-exact, normal-none, infinity-exact, large-none)

@@ -1,10 +1,12 @@
--- The ends of the four functions between patterns and values, over the formats: a NaN's pattern, without its sign, is above
+-- The ends of the four functions between patterns and values, over the formats: a NaN's pattern, without its sign, is
+-- above
 -- the infinity's, and a NaN alone differs from itself.
 use mathlib.Core.Path.{_≡_, refl, _∙_, sym, ap}
 use mathlib.Core.Bool.{true, false, not, false≢true}
 use Prim.Native.Nat.{ℕ, _+_, _*_, _/_, _%_, _≤_, _<_}
 use lib.Dec.{T}
-use lib.Ieee.{Float, Format, binary32, binary64, nan, inf, fin, ofBits, toBits, nanBits, isNan, eq, ne, div, top, ones, hid}
+use lib.Ieee.{Float, Format, binary32, binary64, nan, inf, fin, ofBits, toBits, nanBits, isNan, eq, ne, div, top, ones}
+use lib.Ieee.{hid}
 use lib.Ieee.Bits.{nanBits-is, nanBits-above}
 use lib.Ieee.Compare.{differs-from-itself}
 use borrow.Author.Needs.{needs}
@@ -27,7 +29,8 @@ none binary64 = refl
 -- zero by zero is the NaN, and so is the pattern
 pub high-nan : (f : Format) (b : ℕ) → ones f * hid f < b % top f → div f (ofBits f 0) (ofBits f 0) ≡ ofBits f b
 high-nan f b h =
-    none f ∙ sym (is-nan (ofBits f b) (sym (nanBits-is f b) ∙ nanBits-above f b ∙ lt-ltb (ones f * hid f) (b % top f) h))
+    none f
+    ∙ sym (is-nan (ofBits f b) (sym (nanBits-is f b) ∙ nanBits-above f b ∙ lt-ltb (ones f * hid f) (b % top f) h))
 
 pub self-no-nan : (x : Float) → eq x x ≡ true → T (not (isNan x))
 unfolding isNan eq

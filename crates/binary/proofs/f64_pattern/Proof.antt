@@ -1,4 +1,5 @@
--- `binary::f64_pattern` meets its contract: a NaN alone differs from itself, and has the pattern that the logic writes for
+-- `binary::f64_pattern` meets its contract: a NaN alone differs from itself, and has the pattern that the logic writes
+-- for
 -- it.
 use Rattle.binary.proofs.Nan.{float-ends}
 use Rattle.binary.proofs.f64_pattern.Statement.{statement}
