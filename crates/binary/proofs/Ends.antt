@@ -1,5 +1,5 @@
--- The ends of the conversions between formats, over the formats: what the code has in hand at each, and what it
--- answers.
+-- The ends of the conversions between formats, over the formats: what the code has in hand at each, and its answer
+-- there.
 use mathlib.Core.Path.{_≡_, sym, ap, _∙_}
 use Prim.Native.Nat.{ℕ, suc, _+_, _-_, _*_, _/_, _%_, _^_, _≤_, _<_}
 use native.Mathlib.Nat.{le-trans, add-zero, zero-mul, lt-of-lt-of-le, mod-eq-of-lt, pow-suc}
@@ -28,8 +28,10 @@ abbrev pub digits : Layout → ℕ
 digits f = suc (f .exponentBits + f .fractionBits)
 
 -- a pattern's sign, at its place in another format
-sign-moved : (from to : Layout) (b r : ℕ) → b < 2 * signWeight from →
-    b / signWeight from * signWeight to + r ≡ signed to (negative from b) r
+abbrev pub sign : Layout → Layout → ℕ → ℕ
+sign from to b = b / signWeight from * signWeight to
+
+sign-moved : (from to : Layout) (b r : ℕ) → b < 2 * signWeight from → sign from to b + r ≡ signed to (negative from b) r
 sign-moved from to b r h =
     ap (λ (x : ℕ). x + r)
     (sign-is (signWeight from) (signWeight to) b (pow-pos (from .exponentBits + from .fractionBits)) h)
@@ -66,14 +68,13 @@ module _ (narrow wide : Layout) (lift more : ℕ) (W : Widens narrow wide lift m
   -- a pattern with that rest is the answer
   answered : (r rest : ℕ) → b < 2 * signWeight wide →
       narrowed wide narrow b ≡ exact (signed narrow (negative wide b) rest) →
-      r ≡ b / signWeight wide * signWeight narrow + rest → exact r ≡ narrowed wide narrow b
+      r ≡ sign wide narrow b + rest → exact r ≡ narrowed wide narrow b
   answered r rest B e q = ap exact (q ∙ sign-moved wide narrow b rest B) ∙ sym e
 
   -- a normal number of the narrower format, if the digits that it drops are zeros
   module _ (above : lift < exponent wide b) (under : exponent wide b < allOnes narrow + lift) where
     pub normal-exact : (r : ℕ) → b < 2 * signWeight wide → fraction wide b % 2 ^ more ≡ 0 →
-        r ≡ b / signWeight wide * signWeight
-        narrow + ((exponent wide b - lift) * leading narrow + fraction wide b / 2 ^ more) →
+        r ≡ sign wide narrow b + ((exponent wide b - lift) * leading narrow + fraction wide b / 2 ^ more) →
         exact r ≡ narrowed wide narrow b
     normal-exact r B z q =
         answered r ((exponent wide b - lift) * leading narrow + fraction wide b / 2 ^ more) B
@@ -85,7 +86,7 @@ module _ (narrow wide : Layout) (lift more : ℕ) (W : Widens narrow wide lift m
   -- past those: the infinity, and what is too large or a NaN
   module _ (over : allOnes narrow + lift ≤ exponent wide b) where
     pub infinity-exact : (r : ℕ) → b < 2 * signWeight wide → b % signWeight wide ≡ infinity wide →
-        r ≡ b / signWeight wide * signWeight narrow + infinity narrow → exact r ≡ narrowed wide narrow b
+        r ≡ sign wide narrow b + infinity narrow → exact r ≡ narrowed wide narrow b
     infinity-exact r B i q =
         let k = alone wide b (allOnes wide) i in
         answered r (infinity narrow) B (gives-infinity wide narrow b (k .0) (k .1)) q
@@ -115,7 +116,7 @@ module _ (narrow wide : Layout) (lift more : ℕ) (W : Widens narrow wide lift m
 
     pub subnormal-exact : (r : ℕ) → b < 2 * signWeight wide →
         significand wide b / 2 ^ down * 2 ^ down % 2 ^ digits wide ≡ significand wide b →
-        r ≡ b / signWeight wide * signWeight narrow + significand wide b / 2 ^ down → exact r ≡ narrowed wide narrow b
+        r ≡ sign wide narrow b + significand wide b / 2 ^ down → exact r ≡ narrowed wide narrow b
     subnormal-exact r B z q =
         answered r kept B (narrow-subnormal W b down down-is below close-by (sym shifted-back ∙ z)) q
 
@@ -125,7 +126,7 @@ module _ (narrow wide : Layout) (lift more : ℕ) (W : Widens narrow wide lift m
 
     -- its pattern fits where those of the narrower format do
     pub subnormal-fits : (w : Width) (r : ℕ) → b < 2 * signWeight wide → 2 * signWeight narrow ≤ 2 ^ bits w →
-        r ≡ b / signWeight wide * signWeight narrow + significand wide b / 2 ^ down → Fits w r
+        r ≡ sign wide narrow b + significand wide b / 2 ^ down → Fits w r
     subnormal-fits w r B room q =
         let k : kept < signWeight narrow =
         lt-of-lt-of-le (kept-lt W b down down-is below close-by) (under-sign narrow) in
@@ -137,10 +138,10 @@ module _ (narrow wide : Layout) (lift more : ℕ) (W : Widens narrow wide lift m
   -- below those: zero, and what is too small
   module _ (low : exponent wide b ≤ lift - narrow .fractionBits) where
     pub zero-exact : (r : ℕ) → b < 2 * signWeight wide → b % signWeight wide ≡ 0 →
-        r ≡ b / signWeight wide * signWeight narrow → exact r ≡ narrowed wide narrow b
+        r ≡ sign wide narrow b → exact r ≡ narrowed wide narrow b
     zero-exact r B z q =
         let k = alone wide b 0 (z ∙ sym (zero-mul (leading wide))) in
-        answered r 0 B (narrow-zero W b (k .0) (k .1)) (q ∙ sym (add-zero (b / signWeight wide * signWeight narrow)))
+        answered r 0 B (narrow-zero W b (k .0) (k .1)) (q ∙ sym (add-zero (sign wide narrow b)))
 
     pub small-none : (b % signWeight wide ≡ 0 → ⊥) → lost ≡ narrowed wide narrow b
     small-none n =
@@ -204,23 +205,24 @@ module _ (narrow wide : Layout) (lift more : ℕ) (W : Widens narrow wide lift m
 
 -- ---- widening
 
-module _ (narrow wide : Layout) (lift more : ℕ) (W : Widens narrow wide lift more) (b : ℕ) (B : b < 2 * signWeight narrow) where
+module _ (narrow wide : Layout) (lift more : ℕ) (W : Widens narrow wide lift more)
+    (b : ℕ) (B : b < 2 * signWeight narrow) where
   -- a pattern with that rest is the answer
   widened-is : (r rest : ℕ) → widened narrow wide b ≡ signed wide (negative narrow b) rest →
-      r ≡ b / signWeight narrow * signWeight wide + rest → r ≡ widened narrow wide b
+      r ≡ sign narrow wide b + rest → r ≡ widened narrow wide b
   widened-is r rest e q = q ∙ sign-moved narrow wide b rest B ∙ sym e
 
   -- a subnormal number, or zero
-  module _ (rest : ℕ) (s : rest ≡ candidate wide (magnitude narrow 0 (fraction narrow b))) where
-    pub subnormal-wide : (r : ℕ) → exponent narrow b ≡ 0 → r ≡ b / signWeight narrow * signWeight wide + rest →
+  module _ (rest : ℕ) (e : rest ≡ candidate wide (magnitude narrow 0 (fraction narrow b))) where
+    pub subnormal-wide : (r : ℕ) → exponent narrow b ≡ 0 → r ≡ sign narrow wide b + rest →
         r ≡ widened narrow wide b
     subnormal-wide r z q =
-        widened-is r rest (widens-to-candidate narrow wide b (rw z (W .some)) ∙ rw (z, ← s)) q
+        widened-is r rest (widens-to-candidate narrow wide b (rw z (W .some)) ∙ rw (z, ← e)) q
 
-    pub subnormal-sum-fits : (w : Width) (sign : ℕ) → 2 * signWeight wide ≤ 2 ^ bits w →
-        sign ≡ b / signWeight narrow * signWeight wide → Fits w (sign + rest)
-    subnormal-sum-fits w sign h q =
-        let l : rest < signWeight wide = rw s (lifted-lt W 0 (fraction narrow b) (W .some) (fraction-lt narrow b)) in
+    pub subnormal-sum-fits : (w : Width) (s : ℕ) → 2 * signWeight wide ≤ 2 ^ bits w →
+        s ≡ sign narrow wide b → Fits w (s + rest)
+    subnormal-sum-fits w s h q =
+        let l : rest < signWeight wide = rw e (lifted-lt W 0 (fraction narrow b) (W .some) (fraction-lt narrow b)) in
         record {
           fits = lt-of-lt-of-le
               (rw (q, sign-moved narrow wide b rest B) (signed-lt wide (negative narrow b) rest l)) h;
@@ -228,8 +230,7 @@ module _ (narrow wide : Layout) (lift more : ℕ) (W : Widens narrow wide lift m
 
   -- a normal number
   pub normal-wide : (r : ℕ) → (exponent narrow b ≡ 0 → ⊥) → exponent narrow b < allOnes narrow →
-      r ≡ b / signWeight narrow * signWeight
-      wide + ((exponent narrow b + lift) * leading wide + fraction narrow b * 2 ^ more) →
+      r ≡ sign narrow wide b + ((exponent narrow b + lift) * leading wide + fraction narrow b * 2 ^ more) →
       r ≡ widened narrow wide b
   normal-wide r n h q =
       let e = exponent narrow b in
@@ -243,37 +244,34 @@ module _ (narrow wide : Layout) (lift more : ℕ) (W : Widens narrow wide lift m
     all-ones : exponent narrow b ≡ allOnes narrow
     all-ones = omega (arith, exponent-le narrow b)
 
-    pub infinity-wide : fraction narrow b ≡ 0 → r ≡ b / signWeight narrow * signWeight wide + infinity wide →
+    pub infinity-wide : fraction narrow b ≡ 0 → r ≡ sign narrow wide b + infinity wide →
         r ≡ widened narrow wide b
     infinity-wide z q = widened-is r (infinity wide) (widens-infinity narrow wide b all-ones z) q
 
     pub nan-wide : (fraction narrow b ≡ 0 → ⊥) →
-        r ≡ b / signWeight narrow * signWeight wide
-        + (infinity wide + quieted wide (fraction narrow b * 2 ^ (wide .fractionBits - narrow .fractionBits))) →
+        r ≡ sign narrow wide
+        b + (infinity wide + quieted wide (fraction narrow b * 2 ^ (wide .fractionBits - narrow .fractionBits))) →
         r ≡ widened narrow wide b
     nan-wide n q =
         widened-is r
         (infinity wide + quieted wide (fraction narrow b * 2 ^ (wide .fractionBits - narrow .fractionBits)))
         (widens-nan narrow wide b all-ones n) q
 
-pub ruleset narrow-normal-ends = (normal-exact, normal-none, infinity-exact, large-none)
+-- the two pairs of formats
+pub ruleset pairs = (half-single, single-double)
 
-pub ruleset narrow-low-ends = (subnormal-exact, subnormal-none, subnormal-fits, zero-exact, small-none)
+pub ruleset narrow-answers = (pattern16, none16, pattern32, none32)
 
-pub ruleset narrow-ends = (pattern16, none16, pattern32, none32, narrow-normal-ends, narrow-low-ends, needs)
+pub ruleset narrow-exact = (normal-exact, infinity-exact, subnormal-exact, subnormal-fits, zero-exact)
 
-pub ruleset raise-ends = (zero-raised, zeros-enough, up-small, up-fits, up-under, raised, raised-fits, needs)
+pub ruleset narrow-none = (normal-none, large-none, subnormal-none, small-none)
 
-pub ruleset widen-ends = (subnormal-wide, subnormal-sum-fits, normal-wide, infinity-wide, nan-wide, needs)
+pub ruleset narrow-ends = (narrow-answers, narrow-exact, narrow-none, needs)
 
 pub ruleset to-half-ends = (half-single, narrow-ends)
 
 pub ruleset to-single-ends = (single-double, narrow-ends)
 
-pub ruleset raise-half-ends = (half-single, raise-ends)
+pub ruleset raise-ends = (pairs, zero-raised, zeros-enough, up-small, up-fits, up-under, raised, raised-fits, needs)
 
-pub ruleset raise-single-ends = (single-double, raise-ends)
-
-pub ruleset widen-half-ends = (half-single, widen-ends)
-
-pub ruleset widen-single-ends = (single-double, widen-ends)
+pub ruleset widen-ends = (pairs, subnormal-wide, subnormal-sum-fits, normal-wide, infinity-wide, nan-wide, needs)

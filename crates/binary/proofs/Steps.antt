@@ -140,7 +140,8 @@ module _ {narrow wide : Layout} {lift more : ℕ} (W : Widens narrow wide lift m
       go (inr l) = high-lost hi l
 
   -- A subnormal number of the narrower format: of the significand, `down` digits are dropped, and they are zeros.
-  module _ (down : ℕ) (is : down + exponent wide b ≡ suc lift + more) (below : exponent wide b ≤ lift) (near : lift < exponent wide b + narrow .fractionBits) where
+  module _ (down : ℕ) (is : down + exponent wide b ≡ suc lift + more) (below : exponent wide b ≤ lift)
+      (near : lift < exponent wide b + narrow .fractionBits) where
     finite-here : exponent wide b < allOnes wide
     finite-here = omega (arith, W .high, W .some)
 

@@ -1,7 +1,7 @@
 -- `binary::subnormal_f16` meets its contract: the leading digit of a subnormal number goes up to where a normal number
 -- has
 -- it, by as many places as the zeros above it say.
-use Rattle.binary.proofs.Ends.{raise-half-ends}
+use Rattle.binary.proofs.Ends.{raise-ends}
 use Rattle.binary.proofs.subnormal_f16.Statement.{statement}
 use Rattle.binary.proofs.subnormal_f16.Tie as tie
 
@@ -9,11 +9,11 @@ pub subnormal-f16-spec : {M : Type 1} → statement M
 subnormal-f16-spec =
     tie.close
     (tie.spec
-    (λ c. search raise-half-ends)
-    (λ c. search raise-half-ends)
-    (λ c. search raise-half-ends)
-    (λ c. search raise-half-ends)
-    (λ c. search raise-half-ends)
-    (λ c. search raise-half-ends)
-    (λ c. search raise-half-ends)
-    (λ c. search raise-half-ends))
+    (λ c. search raise-ends)
+    (λ c. search raise-ends)
+    (λ c. search raise-ends)
+    (λ c. search raise-ends)
+    (λ c. search raise-ends)
+    (λ c. search raise-ends)
+    (λ c. search raise-ends)
+    (λ c. search raise-ends))
