@@ -3,6 +3,9 @@ use Rattle.exports.proofs.Ends.{say-ends}
 use Rattle.exports.proofs.pot_read_atom.Statement.{statement}
 use Rattle.exports.proofs.pot_read_atom.Tie as tie
 
+returns : tie.Need-returns
+returns c = search say-ends
+
 pub pot-read-atom-spec : {M : Type 1} → statement M
 pot-read-atom-spec =
     tie.close
@@ -11,4 +14,4 @@ pot-read-atom-spec =
     (λ c κs. search say-ends)
     (λ c κs. search say-ends)
     (λ c. search say-ends)
-    (λ c. search say-ends))
+    returns)

@@ -3,6 +3,9 @@ use Rattle.exports.proofs.Ends.{say-ends}
 use Rattle.exports.proofs.pot_read_header.Statement.{statement}
 use Rattle.exports.proofs.pot_read_header.Tie as tie
 
+returns : tie.Need-returns
+returns c = search say-ends
+
 pub pot-read-header-spec : {M : Type 1} → statement M
 pot-read-header-spec =
     tie.close
@@ -10,4 +13,4 @@ pot-read-header-spec =
     (λ c κs. search say-ends)
     (λ c κs. search say-ends)
     (λ c. search say-ends)
-    (λ c. search say-ends))
+    returns)
