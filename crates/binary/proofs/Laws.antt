@@ -1,15 +1,19 @@
--- The laws of widening and narrowing that other crates cite. W is one of `half-single`, `single-double` and `half-double` of `Widths`.
+-- The laws of widening and narrowing that other crates cite. W is one of `half-single`, `single-double` and
+-- `half-double` of `Widths`.
 use mathlib.Core.Path.{_≡_, refl, sym, ap, _∙_, subst}
 use mathlib.Core.Bool.{Bool, false≢true}
 use Prim.Native.Nat.{ℕ, suc, _+_, _-_, _*_, _%_, _^_, _≤_, _<_}
 use native.Mathlib.Nat.{add-zero, zero-mul, le-of-lt, le-of-eq, mod-lt, pow-suc}
 use native.Mathlib.Omega.{arith}
 use lib.Pow.{pow-pos}
-use Rattle.binary.specs.Formats.{Layout, leading, signWeight, allOnes, negative, exponent, fraction, unit, smallests, magnitude, finite, infinite, nan, meaning, Number, SameValue}
-use Rattle.binary.specs.Conversions.{signed, infinity, quieted, widened, Narrowed, exact, lost, narrowedMeaning, narrowed, Narrows, through, answer16, answer32}
+use Rattle.binary.specs.Formats.{Layout, leading, signWeight, allOnes, negative, exponent, fraction, unit}
+use Rattle.binary.specs.Formats.{smallests, magnitude, finite, infinite, nan, meaning, Number, SameValue}
+use Rattle.binary.specs.Conversions.{signed, infinity, quieted, widened, Narrowed, exact, lost, narrowedMeaning}
+use Rattle.binary.specs.Conversions.{narrowed, Narrows, through, answer16, answer32}
 use Rattle.binary.specs.declared.Narrowed16 as N16
 use Rattle.binary.specs.declared.Narrowed32 as N32
-use Rattle.binary.proofs.Patterns.{rest-lt, signed-lt, fraction-lt, meaning-signed, meant-finite, meant-nan, Reading, is-finite, is-infinite, is-nan, reading, one-pattern}
+use Rattle.binary.proofs.Patterns.{rest-lt, signed-lt, fraction-lt, meaning-signed, meant-finite, meant-nan}
+use Rattle.binary.proofs.Patterns.{Reading, is-finite, is-infinite, is-nan, reading, one-pattern}
 use Rattle.binary.proofs.Narrowing.{narrows, one-answer, infinite-here, infinity-lt}
 use Rattle.binary.proofs.Widths.{Widens, lifted}
 use Rattle.binary.proofs.Widening.{widened-by, widens-to, widens-infinity}
@@ -38,7 +42,8 @@ zero-magnitude : (f : Layout) → magnitude f 0 0 ≡ 0
 unfolding smallests
 zero-magnitude f = zero-mul (2 ^ unit f)
 
-pub narrowed-zero : (from to : Layout) (b : ℕ) (s : Bool) → 0 < allOnes to → meaning from b ≡ finite s 0 → narrowed from to b ≡ exact (signed to s 0)
+pub narrowed-zero : (from to : Layout) (b : ℕ) (s : Bool) → 0 < allOnes to → meaning from b ≡ finite s 0 →
+    narrowed from to b ≡ exact (signed to s 0)
 narrowed-zero from to b s o h =
     let m : meaning to (signed to s 0) ≡ finite s 0 =
     ap (λ (x : ℕ). meaning to (signed to s x)) (sym (add-zero (0 * leading to) ∙ zero-mul (leading to)))
@@ -48,13 +53,14 @@ narrowed-zero from to b s o h =
     narrowed-complete from to b (signed to s 0)
     (signed-lt to s 0 (pow-pos (to .exponentBits + to .fractionBits)), subst Number (sym h) tt, m ∙ sym h)
 
-pub narrowed-infinite : (from to : Layout) (b : ℕ) (s : Bool) → meaning from b ≡ infinite s → narrowed from to b ≡ exact (signed to s (infinity to))
+pub narrowed-infinite : (from to : Layout) (b : ℕ) (s : Bool) → meaning from b ≡ infinite s →
+    narrowed from to b ≡ exact (signed to s (infinity to))
 unfolding narrowed
 narrowed-infinite from to b s h = ap (narrowedMeaning to) h
 
 -- ---- widening keeps the sign and the magnitude
 
-module _ {narrow wide : Layout} (W : Widens narrow wide) where
+module _ {narrow wide : Layout} {lift more : ℕ} (W : Widens narrow wide lift more) where
   widened-number : (b : ℕ) → Reading narrow b → Number (meaning narrow b)
       → (widened narrow wide b < 2 * signWeight wide) × (meaning wide (widened narrow wide b) ≡ meaning narrow b)
   widened-number b (is-finite e m) n =
@@ -63,10 +69,12 @@ module _ {narrow wide : Layout} (W : Widens narrow wide) where
       let l : k .0 ≤ allOnes wide = le-of-lt (k .2) in
       rw (widens-to narrow wide b (k .0) (k .1) e (k .3) (k .4)) (
         signed-lt wide s (k .0 * leading wide + k .1) (rest-lt wide (k .0) (k .1) l (k .3)),
-        meaning-signed wide s (k .0) (k .1) l (k .3) ∙ meant-finite wide s (k .0) (k .1) (k .2) ∙ ap (finite s) (sym (k .4)) ∙ sym m,
+        meaning-signed wide s (k .0) (k .1) l (k .3) ∙ meant-finite wide s (k .0) (k .1) (k .2)
+            ∙ ap (finite s) (sym (k .4)) ∙ sym m,
       )
   widened-number b (is-infinite e z m) n =
-      rw (widens-infinity narrow wide b e z) (infinity-lt wide (negative narrow b), infinite-here wide (negative narrow b) ∙ sym m)
+      rw (widens-infinity narrow wide b e z)
+      (infinity-lt wide (negative narrow b), infinite-here wide (negative narrow b) ∙ sym m)
   widened-number b (is-nan e z m) n = absurd (subst Number m n)
 
   pub widened-lt : (b : ℕ) → Number (meaning narrow b) → widened narrow wide b < 2 * signWeight wide
@@ -77,18 +85,22 @@ module _ {narrow wide : Layout} (W : Widens narrow wide) where
 
   -- ---- there and back
 
-  pub narrowed-widened : (b : ℕ) → b < 2 * signWeight narrow → Number (meaning narrow b) → narrowed wide narrow (widened narrow wide b) ≡ exact b
+  pub narrowed-widened : (b : ℕ) → b < 2 * signWeight narrow → Number (meaning narrow b) →
+      narrowed wide narrow (widened narrow wide b) ≡ exact b
   narrowed-widened b B n =
-      narrowed-complete wide narrow (widened narrow wide b) b (B, subst Number (sym (widened-keeps b n)) n, sym (widened-keeps b n))
+      narrowed-complete wide narrow (widened narrow wide b) b
+      (B, subst Number (sym (widened-keeps b n)) n, sym (widened-keeps b n))
 
-  pub widened-narrowed : (b q : ℕ) → b < 2 * signWeight wide → narrowed wide narrow b ≡ exact q → widened narrow wide q ≡ b
+  pub widened-narrowed : (b q : ℕ) → b < 2 * signWeight wide → narrowed wide narrow b ≡ exact q →
+      widened narrow wide q ≡ b
   widened-narrowed b q B h =
       let v = narrowed-sound wide narrow b q h in
       let n : Number (meaning narrow q) = subst Number (sym (v .2)) (v .1) in
       one-pattern wide (widened narrow wide q) b (widened-lt q n) B (widened-keeps q n ∙ v .2)
 
   -- Narrowing in two steps is narrowing: a value of the narrow format is one of the format between.
-  step : (from : Layout) (b : ℕ) (n : Narrowed) → Narrows from wide b n → Narrows from narrow b (through n (narrowed wide narrow))
+  step : (from : Layout) (b : ℕ) (n : Narrowed) → Narrows from wide b n →
+      Narrows from narrow b (through n (narrowed wide narrow))
   step from b (exact m) v = go (narrowed wide narrow m) (narrows wide narrow m)
     where
       go : (k : Narrowed) → Narrows wide narrow m k → Narrows from narrow b k
@@ -98,9 +110,11 @@ module _ {narrow wide : Layout} (W : Widens narrow wide) where
       let n : Number (meaning narrow q) = subst Number (sym (t .2)) (t .1) in
       v (widened narrow wide q) (widened-lt q n, t .1, widened-keeps q n ∙ t .2)
 
-  pub narrowed-through : (from : Layout) (b : ℕ) → narrowed from narrow b ≡ through (narrowed from wide b) (narrowed wide narrow)
+  pub narrowed-through : (from : Layout) (b : ℕ) →
+      narrowed from narrow b ≡ through (narrowed from wide b) (narrowed wide narrow)
   narrowed-through from b =
-      one-answer from narrow b (narrowed from narrow b) (through (narrowed from wide b) (narrowed wide narrow)) (narrows from narrow b) (step from b (narrowed from wide b) (narrows from wide b))
+      one-answer from narrow b (narrowed from narrow b) (through (narrowed from wide b) (narrowed wide narrow))
+      (narrows from narrow b) (step from b (narrowed from wide b) (narrows from wide b))
 
 -- ---- a NaN's bits
 
@@ -124,10 +138,13 @@ widened-nan from to b s t p h =
     let l : u < leading to = quieted-lt (to .fractionBits) (t * 2 ^ (to .fractionBits - from .fractionBits)) p in
     ap (meaning to) (widened-by from to b (nan s t) h)
     ∙ meaning-signed to s (allOnes to) u (le-of-eq refl) l
-    ∙ meant-nan to s (allOnes to) u refl (quieted-pos (2 ^ (to .fractionBits - 1)) (t * 2 ^ (to .fractionBits - from .fractionBits) % 2 ^ (to .fractionBits - 1)) (pow-pos (to .fractionBits - 1)))
+    ∙ meant-nan to s (allOnes to) u refl
+    (quieted-pos (2 ^ (to .fractionBits - 1))
+    (t * 2 ^ (to .fractionBits - from .fractionBits) % 2 ^ (to .fractionBits - 1)) (pow-pos (to .fractionBits - 1)))
 
 -- a widened pattern, a NaN's too, is one of the wider format
-pub widened-in : {narrow wide : Layout} (W : Widens narrow wide) → 0 < wide .fractionBits → (b : ℕ) → widened narrow wide b < 2 * signWeight wide
+pub widened-in : {narrow wide : Layout} {lift more : ℕ} (W : Widens narrow wide lift more) → 0 < wide .fractionBits →
+    (b : ℕ) → widened narrow wide b < 2 * signWeight wide
 widened-in {narrow} {wide} W p b = go (reading narrow b)
   where
     go : Reading narrow b → widened narrow wide b < 2 * signWeight wide
@@ -137,7 +154,8 @@ widened-in {narrow} {wide} W p b = go (reading narrow b)
         let s = negative narrow b in
         let x = fraction narrow b * 2 ^ (wide .fractionBits - narrow .fractionBits) in
         rw (widened-by narrow wide b (nan s (fraction narrow b)) m)
-        (signed-lt wide s (infinity wide + quieted wide x) (rest-lt wide (allOnes wide) (quieted wide x) (le-of-eq refl) (quieted-lt (wide .fractionBits) x p)))
+        (signed-lt wide s (infinity wide + quieted wide x)
+        (rest-lt wide (allOnes wide) (quieted wide x) (le-of-eq refl) (quieted-lt (wide .fractionBits) x p)))
 
 -- ---- from the code's answers to the definition's
 

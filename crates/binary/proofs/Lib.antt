@@ -4,6 +4,7 @@ pub mod Narrowing
 pub mod Widths
 pub mod Widening
 pub mod Steps
+pub mod Ends
 pub mod Laws
 pub mod Nan
 pub mod Units

@@ -1,9 +1,12 @@
--- What the branches of the code come to, once for every pair of formats: each lemma takes a branch's tests and gives what `narrowed` or `widened` answers there.
+-- What the branches of the code come to, once for every pair of formats: each lemma takes a branch's tests and gives
+-- what `narrowed` or `widened` answers there.
 use mathlib.Core.Path.{_≡_, refl, sym, ap, _∙_, subst}
 use mathlib.Core.Logic.{_⊎_, inl, inr}
 use mathlib.Core.Bool.{Bool, true, false, cond}
 use Prim.Native.Nat.{ℕ, suc, _+_, _-_, _*_, _/_, _%_, _^_, _≤_, _<_}
-use native.Mathlib.Nat.{eq-or-lt-of-le, suc-mul, le-of-lt, lt-of-le-of-lt, mul-le-mul-right, pow-suc, le-of-eq, le-trans, le-of-mul-le-mul-right, mul-assoc, mul-mod-left, div-add-mod', add-zero, lt-of-lt-of-le, div-mul-le-self, mod-eq-of-lt, mul-div-cancel, zero-add, zero-mul}
+use native.Mathlib.Nat.{eq-or-lt-of-le, suc-mul, le-of-lt, lt-of-le-of-lt, mul-le-mul-right, pow-suc, le-of-eq}
+use native.Mathlib.Nat.{le-trans, le-of-mul-le-mul-right, mul-assoc, mul-mod-left, div-add-mod', add-zero}
+use native.Mathlib.Nat.{lt-of-lt-of-le, div-mul-le-self, mod-eq-of-lt, mul-div-cancel, zero-add, zero-mul}
 use native.Mathlib.Omega.{arith}
 use lib.Arith.{digits-div}
 use lib.Dec.{leb}
@@ -11,8 +14,9 @@ use lib.Count.{leadingZeros, leading-top}
 use lib.Pow.{pow-add, pow-pos, pow-mono, shl-lt, shr-lt}
 use borrow.Author.Tests.{leb-true, leb-false}
 use Rattle.binary.specs.Formats.{Layout, leading, signWeight, allOnes, negative, exponent, fraction, magnitude}
-use Rattle.binary.specs.Conversions.{signed, candidate, widened, exact, lost, narrowed}
-use Rattle.binary.proofs.Smallests.{pow-lt-back, raised-le, raised-lt, Origin, from-zero, from-subnormal, from-normal}
+use Rattle.binary.specs.Conversions.{signed, candidate, exact, lost, narrowed}
+use Rattle.binary.proofs.Smallests.{pow-lt-back, raised-le, raised-lt, Origin, from-zero, from-subnormal}
+use Rattle.binary.proofs.Smallests.{from-normal}
 use Rattle.binary.proofs.Patterns.{rest-lt, exponent-le, fraction-lt, candidate-is}
 use Rattle.binary.proofs.Narrowing.{gives, loses, loses-nan}
 use Rattle.binary.proofs.Widths.{Widens, kept-normal, kept-subnormal, kept-zero, lifted, comes-from}
@@ -36,9 +40,11 @@ sign-is c w b C h = go (leb c b) refl
 
     go : (t : Bool) → leb c b ≡ t → b / c * w ≡ cond (leb c b) w 0
     go true e =
-        ap (λ (x : ℕ). x / c * w) (one (leb-true c b e)) ∙ ap (λ (x : ℕ). x * w) (digits-div 1 (less (leb-true c b e))) ∙ unit-mul ∙ sym (ap (λ (t : Bool). cond t w 0) e)
+        ap (λ (x : ℕ). x / c * w) (one (leb-true c b e)) ∙ ap (λ (x : ℕ). x * w) (digits-div 1 (less (leb-true c b e)))
+        ∙ unit-mul ∙ sym (ap (λ (t : Bool). cond t w 0) e)
     go false e =
-        ap (λ (x : ℕ). x / c * w) none ∙ ap (λ (x : ℕ). x * w) (digits-div 0 (leb-false c b e)) ∙ zero-mul w ∙ sym (ap (λ (t : Bool). cond t w 0) e)
+        ap (λ (x : ℕ). x / c * w) none ∙ ap (λ (x : ℕ). x * w) (digits-div 0 (leb-false c b e)) ∙ zero-mul w
+        ∙ sym (ap (λ (t : Bool). cond t w 0) e)
 
 -- ---- narrowing
 
@@ -64,25 +70,35 @@ take-off a b = omega arith
 abbrev pub significand : Layout → ℕ → ℕ
 significand f b = leading f + fraction f b
 
-module _ {narrow wide : Layout} (W : Widens narrow wide) (b : ℕ) where
-  fraction-narrow : fraction wide b / 2 ^ W .more < leading narrow
-  fraction-narrow = shr-lt (narrow .fractionBits) (W .more) (subst (λ (x : ℕ). fraction wide b < 2 ^ x) (W .fractions) (fraction-lt wide b))
+module _ {narrow wide : Layout} {lift more : ℕ} (W : Widens narrow wide lift more) (b : ℕ) where
+  fraction-narrow : fraction wide b / 2 ^ more < leading narrow
+  fraction-narrow =
+      shr-lt (narrow .fractionBits) more
+      (subst (λ (x : ℕ). fraction wide b < 2 ^ x) (W .fractions) (fraction-lt wide b))
 
   -- a normal number of the narrower format: the digits that it drops are zeros
-  pub narrow-normal : W .lift < exponent wide b → exponent wide b < allOnes narrow + W .lift → fraction wide b % 2 ^ W .more ≡ 0
-      → narrowed wide narrow b ≡ exact (signed narrow (negative wide b) ((exponent wide b - W .lift) * leading narrow + fraction wide b / 2 ^ W .more))
+  pub narrow-normal : lift < exponent wide b → exponent wide b < allOnes narrow + lift → fraction wide b % 2 ^ more ≡ 0
+      → narrowed wide narrow b ≡ exact
+      (signed narrow (negative wide b) ((exponent wide b - lift) * leading narrow + fraction wide b / 2 ^ more))
   narrow-normal lo hi z =
-      let e = exponent wide b - W .lift in
-      let t = fraction wide b / 2 ^ W .more in
-      let same : e + W .lift ≡ exponent wide b = omega arith in
+      let e = exponent wide b - lift in
+      let t = fraction wide b / 2 ^ more in
+      let same : e + lift ≡ exponent wide b = omega arith in
       gives wide narrow b e t (omega (arith, W .high)) (omega arith) fraction-narrow
-      (kept-normal W e t (omega arith) ∙ ap (λ (x : ℕ). magnitude wide x (t * 2 ^ W .more)) same ∙ ap (magnitude wide (exponent wide b)) (whole (fraction wide b) (2 ^ W .more) z))
+      (kept-normal W e t (omega arith) ∙ ap (λ (x : ℕ). magnitude wide x (t * 2 ^ more)) same
+      ∙ ap (magnitude wide (exponent wide b)) (whole (fraction wide b) (2 ^ more) z))
+
+  -- where the number can come from in the narrower format
+  abbrev From : ℕ → ℕ → Type 0
+  From e t = Origin (narrow .fractionBits) more (wide .fractionBits) lift e t (exponent wide b) (fraction wide b)
 
   -- no number of the narrower format, since wherever one comes from the tests say otherwise
   narrow-none : exponent wide b < allOnes wide
-      → ((e t : ℕ) → e < allOnes narrow → Origin (narrow .fractionBits) (W .more) (wide .fractionBits) (W .lift) e t (exponent wide b) (fraction wide b) → ⊥)
+      → ((e t : ℕ) → e < allOnes narrow → From e t → ⊥)
       → narrowed wide narrow b ≡ lost
-  narrow-none F none = loses wide narrow b F (λ e t E T same. none e t E (comes-from W e t (exponent wide b) (fraction wide b) T (fraction-lt wide b) same))
+  narrow-none F none =
+      loses wide narrow b F
+      (λ e t E T same. none e t E (comes-from W e t (exponent wide b) (fraction wide b) T (fraction-lt wide b) same))
 
   above : (e j u : ℕ) → u < e → 1 ≤ j → e + j ≡ suc u → ⊥
   above e j u h k q = omega arith
@@ -90,31 +106,33 @@ module _ {narrow wide : Layout} (W : Widens narrow wide) (b : ℕ) where
   above-zero : (e u : ℕ) → u < e → e ≡ 0 → ⊥
   above-zero e u h q = omega arith
 
-  pub normal-lost : W .lift < exponent wide b → exponent wide b < allOnes wide → (fraction wide b % 2 ^ W .more ≡ 0 → ⊥) → narrowed wide narrow b ≡ lost
+  pub normal-lost : lift < exponent wide b → exponent wide b < allOnes wide → (fraction wide b % 2 ^ more ≡ 0 → ⊥) →
+      narrowed wide narrow b ≡ lost
   normal-lost lo F n = narrow-none F go
     where
-      go : (e t : ℕ) → e < allOnes narrow → Origin (narrow .fractionBits) (W .more) (wide .fractionBits) (W .lift) e t (exponent wide b) (fraction wide b) → ⊥
-      go e t E (from-zero a z x y) = above-zero (exponent wide b) (W .lift) lo x
-      go e t E (from-subnormal a j j1 jp x y) = above (exponent wide b) j (W .lift) lo j1 x
-      go e t E (from-normal a x y) = n (ap (λ (k : ℕ). k % 2 ^ W .more) y ∙ mul-mod-left t (2 ^ W .more))
+      go : (e t : ℕ) → e < allOnes narrow → From e t → ⊥
+      go e t E (from-zero a z x y) = above-zero (exponent wide b) lift lo x
+      go e t E (from-subnormal a j j1 jp x y) = above (exponent wide b) j lift lo j1 x
+      go e t E (from-normal a x y) = n (ap (λ (k : ℕ). k % 2 ^ more) y ∙ mul-mod-left t (2 ^ more))
 
   -- too large
-  high-lost : allOnes narrow + W .lift ≤ exponent wide b → exponent wide b < allOnes wide → narrowed wide narrow b ≡ lost
+  high-lost : allOnes narrow + lift ≤ exponent wide b → exponent wide b < allOnes wide → narrowed wide narrow b ≡ lost
   high-lost hi F = narrow-none F go
     where
-      lo : W .lift < exponent wide b
+      lo : lift < exponent wide b
       lo = omega (arith, W .some)
 
-      under : (e : ℕ) → e < allOnes narrow → exponent wide b ≡ e + W .lift → ⊥
+      under : (e : ℕ) → e < allOnes narrow → exponent wide b ≡ e + lift → ⊥
       under e E x = omega arith
 
-      go : (e t : ℕ) → e < allOnes narrow → Origin (narrow .fractionBits) (W .more) (wide .fractionBits) (W .lift) e t (exponent wide b) (fraction wide b) → ⊥
-      go e t E (from-zero a z x y) = above-zero (exponent wide b) (W .lift) lo x
-      go e t E (from-subnormal a j j1 jp x y) = above (exponent wide b) j (W .lift) lo j1 x
+      go : (e t : ℕ) → e < allOnes narrow → From e t → ⊥
+      go e t E (from-zero a z x y) = above-zero (exponent wide b) lift lo x
+      go e t E (from-subnormal a j j1 jp x y) = above (exponent wide b) j lift lo j1 x
       go e t E (from-normal a x y) = under e E x
 
   -- too large, or a NaN
-  pub top-lost : allOnes narrow + W .lift ≤ exponent wide b → (exponent wide b ≡ allOnes wide → fraction wide b ≡ 0 → ⊥) → narrowed wide narrow b ≡ lost
+  pub top-lost : allOnes narrow + lift ≤ exponent wide b → (exponent wide b ≡ allOnes wide → fraction wide b ≡ 0 → ⊥) →
+      narrowed wide narrow b ≡ lost
   top-lost hi n = go (eq-or-lt-of-le (exponent-le wide b))
     where
       go : (exponent wide b ≡ allOnes wide) ⊎ (exponent wide b < allOnes wide) → narrowed wide narrow b ≡ lost
@@ -122,69 +140,83 @@ module _ {narrow wide : Layout} (W : Widens narrow wide) (b : ℕ) where
       go (inr l) = high-lost hi l
 
   -- A subnormal number of the narrower format: of the significand, `down` digits are dropped, and they are zeros.
-  module _ (down : ℕ) (is : down + exponent wide b ≡ suc (W .lift) + W .more) (below : exponent wide b ≤ W .lift) (near : W .lift < exponent wide b + narrow .fractionBits) where
+  module _ (down : ℕ) (is : down + exponent wide b ≡ suc lift + more) (below : exponent wide b ≤ lift)
+      (near : lift < exponent wide b + narrow .fractionBits) where
     finite-here : exponent wide b < allOnes wide
     finite-here = omega (arith, W .high, W .some)
 
     pub kept-lt : significand wide b / 2 ^ down < leading narrow
     kept-lt =
-        let top : significand wide b < 2 ^ suc (wide .fractionBits) = omega (arith, pow-suc 2 (wide .fractionBits), fraction-lt wide b) in
-        shr-lt (narrow .fractionBits) down (lt-of-lt-of-le top (pow-mono {i = suc (wide .fractionBits)} {j = narrow .fractionBits + down} (omega (arith, W .fractions))))
+        let top : significand wide b < 2 ^ suc (wide .fractionBits) =
+        omega (arith, pow-suc 2 (wide .fractionBits), fraction-lt wide b) in
+        shr-lt (narrow .fractionBits) down
+        (lt-of-lt-of-le top
+        (pow-mono {i = suc (wide .fractionBits)} {j = narrow .fractionBits + down} (omega (arith, W .fractions))))
 
-    pub narrow-subnormal : significand wide b / 2 ^ down * 2 ^ down ≡ significand wide b → narrowed wide narrow b ≡ exact (signed narrow (negative wide b) (significand wide b / 2 ^ down))
+    pub narrow-subnormal : significand wide b / 2 ^ down * 2 ^ down ≡ significand wide b →
+        narrowed wide narrow b ≡ exact (signed narrow (negative wide b) (significand wide b / 2 ^ down))
     narrow-subnormal z =
-        let j = down - W .more in
-        let first : 0 < exponent wide b = past-zero (exponent wide b) (W .lift) (narrow .fractionBits) near (W .deep) in
+        let j = down - more in
+        let first : 0 < exponent wide b = past-zero (exponent wide b) lift (narrow .fractionBits) near (W .deep) in
         let t = significand wide b / 2 ^ down in
-        let d : down ≡ j + W .more = apart down (exponent wide b) (W .lift) (W .more) is below in
-        let all : t * 2 ^ (j + W .more) ≡ significand wide b = ap (λ (x : ℕ). t * 2 ^ x) (sym d) ∙ z in
+        let d : down ≡ j + more = apart down (exponent wide b) lift more is below in
+        let all : t * 2 ^ (j + more) ≡ significand wide b = ap (λ (x : ℕ). t * 2 ^ x) (sym d) ∙ z in
         let enough : leading narrow ≤ t * 2 ^ j =
-        le-of-mul-le-mul-right {k = 2 ^ W .more}
-        (le-trans (le-of-eq (sym (pow-add 2 (narrow .fractionBits) (W .more)) ∙ ap (λ (x : ℕ). 2 ^ x) (sym (W .fractions))))
-        (le-trans (omega arith) (le-of-eq (sym all ∙ ap (λ (x : ℕ). t * x) (pow-add 2 j (W .more)) ∙ sym (mul-assoc t (2 ^ j) (2 ^ W .more))))))
-        (pow-pos (W .more)) in
-        let e-is : suc (W .lift - j) ≡ exponent wide b = back-up down (exponent wide b) (W .lift) (W .more) is first below in
-        let t-is : t * 2 ^ (j + W .more) - leading wide ≡ fraction wide b = ap (λ (x : ℕ). x - leading wide) all ∙ take-off (leading wide) (fraction wide b) in
+        le-of-mul-le-mul-right {k = 2 ^ more}
+        (le-trans (le-of-eq (sym (pow-add 2 (narrow .fractionBits) more) ∙ ap (λ (x : ℕ). 2 ^ x) (sym (W .fractions))))
+        (le-trans (omega arith)
+        (le-of-eq (sym all ∙ ap (λ (x : ℕ). t * x) (pow-add 2 j more) ∙ sym (mul-assoc t (2 ^ j) (2 ^ more))))))
+        (pow-pos more) in
+        let e-is : suc (lift - j) ≡ exponent wide b = back-up down (exponent wide b) lift more is first below in
+        let t-is : t * 2 ^ (j + more) - leading wide ≡ fraction wide b =
+        ap (λ (x : ℕ). x - leading wide) all ∙ take-off (leading wide) (fraction wide b) in
         gives wide narrow b 0 t finite-here (W .some) kept-lt
-        (kept-subnormal W j t (moved down (exponent wide b) (W .lift) (W .more) is first) enough ∙ ap (λ (x : ℕ). magnitude wide x (t * 2 ^ (j + W .more) - leading wide)) e-is ∙ ap (magnitude wide (exponent wide b)) t-is)
+        (kept-subnormal W j t (moved down (exponent wide b) lift more is first) enough
+        ∙ ap (λ (x : ℕ). magnitude wide x (t * 2 ^ (j + more) - leading wide)) e-is
+        ∙ ap (magnitude wide (exponent wide b)) t-is)
         ∙ ap (λ (x : ℕ). exact (signed narrow (negative wide b) (x + t))) (zero-mul (leading narrow))
         ∙ ap (λ (x : ℕ). exact (signed narrow (negative wide b) x)) (zero-add t)
 
-    pub subnormal-lost : (significand wide b / 2 ^ down * 2 ^ down ≡ significand wide b → ⊥) → narrowed wide narrow b ≡ lost
+    pub subnormal-lost : (significand wide b / 2 ^ down * 2 ^ down ≡ significand wide b → ⊥) →
+        narrowed wide narrow b ≡ lost
     subnormal-lost n = narrow-none finite-here go
       where
         not-zero : exponent wide b ≡ 0 → ⊥
         not-zero q = omega (arith, W .deep)
 
-        down-is : (j : ℕ) → exponent wide b + j ≡ suc (W .lift) → j + W .more ≡ down
+        down-is : (j : ℕ) → exponent wide b + j ≡ suc lift → j + more ≡ down
         down-is j q = omega arith
 
-        under : (e : ℕ) → 1 ≤ e → exponent wide b ≡ e + W .lift → ⊥
+        under : (e : ℕ) → 1 ≤ e → exponent wide b ≡ e + lift → ⊥
         under e E x = omega arith
 
-        go : (e t : ℕ) → e < allOnes narrow → Origin (narrow .fractionBits) (W .more) (wide .fractionBits) (W .lift) e t (exponent wide b) (fraction wide b) → ⊥
+        go : (e t : ℕ) → e < allOnes narrow → From e t → ⊥
         go e t E (from-zero a z x y) = not-zero x
         go e t E (from-subnormal a j j1 jp x y) =
             let s : significand wide b ≡ t * 2 ^ down = y ∙ ap (λ (k : ℕ). t * 2 ^ k) (down-is j x) in
-            n (ap (λ (k : ℕ). k / 2 ^ down * 2 ^ down) s ∙ ap (λ (k : ℕ). k * 2 ^ down) (mul-div-cancel t (pow-pos down)) ∙ sym s)
+            n
+            (ap (λ (k : ℕ). k / 2 ^ down * 2 ^ down) s ∙ ap (λ (k : ℕ). k * 2 ^ down) (mul-div-cancel t (pow-pos down))
+            ∙ sym s)
         go e t E (from-normal a x y) = under e a x
 
   -- too small
-  pub low-lost : exponent wide b + narrow .fractionBits ≤ W .lift → (exponent wide b ≡ 0 → fraction wide b ≡ 0 → ⊥) → narrowed wide narrow b ≡ lost
+  pub low-lost : exponent wide b + narrow .fractionBits ≤ lift → (exponent wide b ≡ 0 → fraction wide b ≡ 0 → ⊥) →
+      narrowed wide narrow b ≡ lost
   low-lost lo n = narrow-none (omega (arith, W .high, W .some)) go
     where
-      over : (j : ℕ) → j ≤ narrow .fractionBits → exponent wide b + j ≡ suc (W .lift) → ⊥
+      over : (j : ℕ) → j ≤ narrow .fractionBits → exponent wide b + j ≡ suc lift → ⊥
       over j h q = omega arith
 
-      under : (e : ℕ) → 1 ≤ e → exponent wide b ≡ e + W .lift → ⊥
+      under : (e : ℕ) → 1 ≤ e → exponent wide b ≡ e + lift → ⊥
       under e E x = omega arith
 
-      go : (e t : ℕ) → e < allOnes narrow → Origin (narrow .fractionBits) (W .more) (wide .fractionBits) (W .lift) e t (exponent wide b) (fraction wide b) → ⊥
+      go : (e t : ℕ) → e < allOnes narrow → From e t → ⊥
       go e t E (from-zero a z x y) = n x y
       go e t E (from-subnormal a j j1 jp x y) = over j jp x
       go e t E (from-normal a x y) = under e a x
 
-  pub narrow-zero : exponent wide b ≡ 0 → fraction wide b ≡ 0 → narrowed wide narrow b ≡ exact (signed narrow (negative wide b) 0)
+  pub narrow-zero : exponent wide b ≡ 0 → fraction wide b ≡ 0 →
+      narrowed wide narrow b ≡ exact (signed narrow (negative wide b) 0)
   narrow-zero e z =
       gives wide narrow b 0 0 (omega (arith, W .high, W .some)) (W .some) (pow-pos (narrow .fractionBits))
       (kept-zero W ∙ ap (λ (x : ℕ). magnitude wide x 0) (sym e) ∙ ap (magnitude wide (exponent wide b)) (sym z))
@@ -193,8 +225,12 @@ module _ {narrow wide : Layout} (W : Widens narrow wide) (b : ℕ) where
 -- ---- widening a subnormal number
 
 -- how far up the leading digit of a fraction has to go, as the machine counts the zeros above it in k digits
-pub zeros-above : (k p t : ℕ) → p < k → 0 < t → t < 2 ^ p
-    → (k - suc p ≤ leadingZeros k t) × (leadingZeros k t - (k - suc p) ≤ p) × (2 ^ p ≤ t * 2 ^ (leadingZeros k t - (k - suc p))) × (t * 2 ^ (leadingZeros k t - (k - suc p)) < 2 ^ suc p)
+abbrev pub ZerosAbove : ℕ → ℕ → ℕ → Type 0
+ZerosAbove k p t =
+    let j = leadingZeros k t - (k - suc p) in
+    (k - suc p ≤ leadingZeros k t) × (j ≤ p) × (2 ^ p ≤ t * 2 ^ j) × (t * 2 ^ j < 2 ^ suc p)
+
+pub zeros-above : (k p t : ℕ) → p < k → 0 < t → t < 2 ^ p → ZerosAbove k p t
 zeros-above k p t K P h =
     let m = leading-top k t P (lt-of-lt-of-le h (pow-mono (le-of-lt K))) in
     let i = m .0 in
@@ -215,69 +251,42 @@ zeros-above k p t K P h =
     count : (k p z i : ℕ) → p < k → z + suc i ≡ k → i < p → k - suc p ≤ z
     count k p z i K q h = omega arith
 
-module _ {narrow wide : Layout} (W : Widens narrow wide) where
+module _ {narrow wide : Layout} {lift more : ℕ} (W : Widens narrow wide lift more) where
   lead : (x l n : ℕ) → l ≤ n → suc x * l + (n - l) ≡ x * l + n
   lead x l n h = rw (suc-mul x l) (omega arith)
 
-  pub raised-is : (j t : ℕ) → j ≤ W .lift → leading narrow ≤ t * 2 ^ j → t * 2 ^ j < 2 ^ suc (narrow .fractionBits)
-      → (W .lift - j) * leading wide + t * 2 ^ (j + W .more) ≡ candidate wide (magnitude narrow 0 t)
+  pub raised-is : (j t : ℕ) → j ≤ lift → leading narrow ≤ t * 2 ^ j → t * 2 ^ j < 2 ^ suc (narrow .fractionBits)
+      → (lift - j) * leading wide + t * 2 ^ (j + more) ≡ candidate wide (magnitude narrow 0 t)
   raised-is j t J lo hi =
       sym (ap (candidate wide) (kept-subnormal W j t J lo)
-      ∙ candidate-is wide (suc (W .lift - j)) (t * 2 ^ (j + W .more) - leading wide) (raised-lt (narrow .fractionBits) (W .more) (wide .fractionBits) j t (W .fractions) lo hi)
-      ∙ lead (W .lift - j) (leading wide) (t * 2 ^ (j + W .more)) (raised-le (narrow .fractionBits) (W .more) (wide .fractionBits) j t (W .fractions) lo))
+      ∙ candidate-is wide (suc (lift - j)) (t * 2 ^ (j + more) - leading wide)
+      (raised-lt (narrow .fractionBits) more (wide .fractionBits) j t (W .fractions) lo hi)
+      ∙ lead (lift - j) (leading wide) (t * 2 ^ (j + more))
+      (raised-le (narrow .fractionBits) more (wide .fractionBits) j t (W .fractions) lo))
 
   -- the digits after the move, below the next power of two
-  pub raised-under : (j t : ℕ) → t * 2 ^ j < 2 ^ suc (narrow .fractionBits) → t * 2 ^ (j + W .more) < 2 ^ suc (wide .fractionBits)
+  pub raised-under : (j t : ℕ) → t * 2 ^ j < 2 ^ suc (narrow .fractionBits) →
+      t * 2 ^ (j + more) < 2 ^ suc (wide .fractionBits)
   raised-under j t hi =
-      let r : t * 2 ^ (j + W .more) ≡ t * 2 ^ j * 2 ^ W .more = ap (λ (x : ℕ). t * x) (pow-add 2 j (W .more)) ∙ sym (mul-assoc t (2 ^ j) (2 ^ W .more)) in
-      let k : suc (narrow .fractionBits) + W .more ≡ suc (wide .fractionBits) = omega (arith, W .fractions) in
-      subst (λ (x : ℕ). x < 2 ^ suc (wide .fractionBits)) (sym r) (subst (λ (x : ℕ). t * 2 ^ j * 2 ^ W .more < 2 ^ x) k (shl-lt (suc (narrow .fractionBits)) (W .more) hi))
+      let r : t * 2 ^ (j + more) ≡ t * 2 ^ j * 2 ^ more =
+      ap (λ (x : ℕ). t * x) (pow-add 2 j more) ∙ sym (mul-assoc t (2 ^ j) (2 ^ more)) in
+      let k : suc (narrow .fractionBits) + more ≡ suc (wide .fractionBits) = omega (arith, W .fractions) in
+      subst (λ (x : ℕ). x < 2 ^ suc (wide .fractionBits)) (sym r)
+      (subst (λ (x : ℕ). t * 2 ^ j * 2 ^ more < 2 ^ x) k (shl-lt (suc (narrow .fractionBits)) more hi))
 
   pub zero-is : candidate wide (magnitude narrow 0 0) ≡ 0
-  zero-is = ap (candidate wide) (kept-zero W) ∙ candidate-is wide 0 0 (pow-pos (wide .fractionBits)) ∙ add-zero (0 * leading wide) ∙ zero-mul (leading wide)
+  zero-is =
+      ap (candidate wide) (kept-zero W) ∙ candidate-is wide 0 0 (pow-pos (wide .fractionBits))
+      ∙ add-zero (0 * leading wide) ∙ zero-mul (leading wide)
+
+  -- the rest of a widened pattern leaves the sign's place free
+  pub lifted-lt : (e t : ℕ) → e < allOnes narrow → t < leading narrow →
+      candidate wide (magnitude narrow e t) < signWeight wide
+  lifted-lt e t E T =
+      let k = lifted W e t E T in
+      rw (ap (candidate wide) (k .4) ∙ candidate-is wide (k .0) (k .1) (k .3))
+      (rest-lt wide (k .0) (k .1) (le-of-lt (k .2)) (k .3))
 
 -- a shift back up that loses nothing
 pub shift-back : (n d w : ℕ) → n < 2 ^ w → n / 2 ^ d * 2 ^ d % 2 ^ w ≡ n / 2 ^ d * 2 ^ d
 shift-back n d w h = mod-eq-of-lt (lt-of-le-of-lt (div-mul-le-self n (2 ^ d)) h)
-
--- ---- the same, as the code writes it
-
-module _ {narrow wide : Layout} (W : Widens narrow wide) where
-  pub narrow-sign : (b r : ℕ) → b < 2 * signWeight wide → narrowed wide narrow b ≡ exact (signed narrow (negative wide b) r) → exact (b / signWeight wide * signWeight narrow + r) ≡ narrowed wide narrow b
-  narrow-sign b r h e =
-      ap (λ (x : ℕ). exact (x + r)) (sign-is (signWeight wide) (signWeight narrow) b (pow-pos (wide .exponentBits + wide .fractionBits)) h) ∙ sym e
-
-  pub widen-sign : (b r : ℕ) → b < 2 * signWeight narrow → widened narrow wide b ≡ signed wide (negative narrow b) r → b / signWeight narrow * signWeight wide + r ≡ widened narrow wide b
-  widen-sign b r h e =
-      ap (λ (x : ℕ). x + r) (sign-is (signWeight narrow) (signWeight wide) b (pow-pos (narrow .exponentBits + narrow .fractionBits)) h) ∙ sym e
-
-  -- the rest of a widened pattern leaves the sign's place free
-  pub lifted-lt : (e t : ℕ) → e < allOnes narrow → t < leading narrow → candidate wide (magnitude narrow e t) < signWeight wide
-  lifted-lt e t E T =
-      let k = lifted W e t E T in
-      subst (λ (x : ℕ). x < signWeight wide) (sym (ap (candidate wide) (k .4) ∙ candidate-is wide (k .0) (k .1) (k .3))) (rest-lt wide (k .0) (k .1) (le-of-lt (k .2)) (k .3))
-
-  -- A subnormal number whose zeros are counted in k digits, moved up in w digits.
-  module _ (k w t : ℕ) (K : narrow .fractionBits < k) (room : wide .fractionBits < w) (P : 0 < t) (T : t < leading narrow) where
-    abbrev pub up : ℕ
-    up = leadingZeros k t - (k - suc (narrow .fractionBits))
-
-    pub up-counted : k - suc (narrow .fractionBits) ≤ leadingZeros k t
-    up-counted = zeros-above k (narrow .fractionBits) t K P T .0
-
-    pub up-le : up ≤ narrow .fractionBits
-    up-le = zeros-above k (narrow .fractionBits) t K P T .1
-
-    under : t * 2 ^ (up + W .more) < 2 ^ suc (wide .fractionBits)
-    under = raised-under W up t (zeros-above k (narrow .fractionBits) t K P T .3)
-
-    whole-shift : t * 2 ^ (up + W .more) % 2 ^ w ≡ t * 2 ^ (up + W .more)
-    whole-shift = mod-eq-of-lt (lt-of-lt-of-le under (pow-mono {i = suc (wide .fractionBits)} {j = w} room))
-
-    pub raised-small : t * 2 ^ (up + W .more) % 2 ^ w < 2 ^ suc (wide .fractionBits)
-    raised-small = subst (λ (x : ℕ). x < 2 ^ suc (wide .fractionBits)) (sym whole-shift) under
-
-    pub raised-code : (W .lift - up) * leading wide + t * 2 ^ (up + W .more) % 2 ^ w ≡ candidate wide (magnitude narrow 0 t)
-    raised-code =
-        let z = zeros-above k (narrow .fractionBits) t K P T in
-        ap (λ (x : ℕ). (W .lift - up) * leading wide + x) whole-shift ∙ raised-is W up t (le-trans (z .1) (W .deep)) (z .2) (z .3)

@@ -1,4 +1,5 @@
--- Two formats of which the one widens the other (`Widens`), the three pairs that do, and what a number's fields become from the one to the other: `kept-normal`, `kept-subnormal`, `kept-zero`, and back, `comes-from`.
+-- Two formats of which the one widens the other (`Widens`), the three pairs that do, and what a number's fields become
+-- from the one to the other: `kept-normal`, `kept-subnormal`, `kept-zero`, and back, `comes-from`.
 -- Rests on `Smallests`, which has the same in smallest values.
 use mathlib.Core.Path.{_≡_, refl, sym, ap, _∙_, subst}
 use mathlib.Core.Logic.{_⊎_, inl, inr}
@@ -10,11 +11,9 @@ use lib.Pow.{pow-add, pow-pos, shl-lt}
 use Rattle.binary.specs.Formats.{Layout, half, single, double, leading, allOnes, unit, smallests, magnitude}
 use Rattle.binary.proofs.Smallests.{lift-normal, lift-subnormal, raised-lt, up-to, Origin, origin}
 
-pub record Widens (narrow wide : Layout) : Type 0 where
-  -- the fraction bits that the wider format has more
-  pub more : ℕ
-  -- what the exponent's field of a normal number grows by: the difference of the biases
-  pub lift : ℕ
+-- `lift` is what the exponent's field of a normal number grows by: the difference of the biases.
+-- `more` are the fraction bits that the wider format has more.
+pub record Widens (narrow wide : Layout) (lift more : ℕ) : Type 0 where
   pub fractions : wide .fractionBits ≡ narrow .fractionBits + more
   pub units : unit narrow ≡ unit wide + (lift + more)
   -- a subnormal number of the narrower format is normal in the wider one
@@ -23,47 +22,56 @@ pub record Widens (narrow wide : Layout) : Type 0 where
   pub high : allOnes narrow + lift ≤ allOnes wide
   pub some : 0 < allOnes narrow
 
-abbrev pub half-single : Widens half single
-half-single = record { more = 13; lift = 112; fractions = refl; units = refl; deep = lit≤ tt; high = lit≤ tt; some = lit< tt }
+abbrev pub half-single : Widens half single 112 13
+half-single = record { fractions = refl; units = refl; deep = lit≤ tt; high = lit≤ tt; some = lit< tt }
 
-abbrev pub single-double : Widens single double
-single-double = record { more = 29; lift = 896; fractions = refl; units = refl; deep = lit≤ tt; high = lit≤ tt; some = lit< tt }
+abbrev pub single-double : Widens single double 896 29
+single-double = record { fractions = refl; units = refl; deep = lit≤ tt; high = lit≤ tt; some = lit< tt }
 
-abbrev pub half-double : Widens half double
-half-double = record { more = 42; lift = 1008; fractions = refl; units = refl; deep = lit≤ tt; high = lit≤ tt; some = lit< tt }
+abbrev pub half-double : Widens half double 1008 42
+half-double = record { fractions = refl; units = refl; deep = lit≤ tt; high = lit≤ tt; some = lit< tt }
 
 under : (o o' u j : ℕ) → o + u ≤ o' → 0 < o → 1 ≤ j → j ≤ u → suc (u - j) < o'
 under o o' u j h s a b = omega arith
 
-module _ {narrow wide : Layout} (W : Widens narrow wide) where
-  scale : (n : ℕ) → n * 2 ^ unit narrow ≡ n * 2 ^ (W .lift + W .more) * 2 ^ unit wide
+module _ {narrow wide : Layout} {lift more : ℕ} (W : Widens narrow wide lift more) where
+  scale : (n : ℕ) → n * 2 ^ unit narrow ≡ n * 2 ^ (lift + more) * 2 ^ unit wide
   scale n =
-      ap (λ (x : ℕ). n * x) (ap (λ (x : ℕ). 2 ^ x) (W .units) ∙ pow-add 2 (unit wide) (W .lift + W .more) ∙ mul-comm (2 ^ unit wide) (2 ^ (W .lift + W .more)))
-      ∙ sym (mul-assoc n (2 ^ (W .lift + W .more)) (2 ^ unit wide))
+      ap (λ (x : ℕ). n * x)
+      (ap (λ (x : ℕ). 2 ^ x) (W .units) ∙ pow-add 2 (unit wide) (lift + more)
+      ∙ mul-comm (2 ^ unit wide) (2 ^ (lift + more)))
+      ∙ sym (mul-assoc n (2 ^ (lift + more)) (2 ^ unit wide))
 
-  by-smallests : (e t e' t' : ℕ) → smallests (narrow .fractionBits) e t * 2 ^ (W .lift + W .more) ≡ smallests (wide .fractionBits) e' t' → magnitude narrow e t ≡ magnitude wide e' t'
+  by-smallests : (e t e' t' : ℕ) →
+      smallests (narrow .fractionBits) e t * 2 ^ (lift + more) ≡ smallests (wide .fractionBits) e' t' →
+      magnitude narrow e t ≡ magnitude wide e' t'
   by-smallests e t e' t' h = scale (smallests (narrow .fractionBits) e t) ∙ ap (λ (x : ℕ). x * 2 ^ unit wide) h
 
-  in-smallests : (e t e' t' : ℕ) → magnitude narrow e t ≡ magnitude wide e' t' → smallests (narrow .fractionBits) e t * 2 ^ (W .lift + W .more) ≡ smallests (wide .fractionBits) e' t'
+  in-smallests : (e t e' t' : ℕ) → magnitude narrow e t ≡ magnitude wide e' t' →
+      smallests (narrow .fractionBits) e t * 2 ^ (lift + more) ≡ smallests (wide .fractionBits) e' t'
   in-smallests e t e' t' h =
-      eq-of-mul-eq-mul-right (2 ^ unit wide) (pow-pos (unit wide)) (smallests (narrow .fractionBits) e t * 2 ^ (W .lift + W .more)) (smallests (wide .fractionBits) e' t')
+      eq-of-mul-eq-mul-right (2 ^ unit wide) (pow-pos (unit wide))
+      (smallests (narrow .fractionBits) e t * 2 ^ (lift + more)) (smallests (wide .fractionBits) e' t')
       (sym (scale (smallests (narrow .fractionBits) e t)) ∙ h)
 
-  normal-suc : (x t : ℕ) → magnitude narrow (suc x) t ≡ magnitude wide (suc (x + W .lift)) (t * 2 ^ W .more)
-  normal-suc x t = by-smallests (suc x) t (suc (x + W .lift)) (t * 2 ^ W .more) (lift-normal (narrow .fractionBits) (W .more) (wide .fractionBits) (W .lift) x t (W .fractions))
+  normal-suc : (x t : ℕ) → magnitude narrow (suc x) t ≡ magnitude wide (suc (x + lift)) (t * 2 ^ more)
+  normal-suc x t =
+      by-smallests (suc x) t (suc (x + lift)) (t * 2 ^ more)
+      (lift-normal (narrow .fractionBits) more (wide .fractionBits) lift x t (W .fractions))
 
-  pub kept-normal : (e t : ℕ) → 0 < e → magnitude narrow e t ≡ magnitude wide (e + W .lift) (t * 2 ^ W .more)
+  pub kept-normal : (e t : ℕ) → 0 < e → magnitude narrow e t ≡ magnitude wide (e + lift) (t * 2 ^ more)
   kept-normal zero t h = absurd (none h)
     where
       none : 0 < 0 → ⊥
       none h = omega arith
-  kept-normal (suc x) t h = normal-suc x t ∙ ap (λ (y : ℕ). magnitude wide y (t * 2 ^ W .more)) (sym (suc-add x (W .lift)))
+  kept-normal (suc x) t h = normal-suc x t ∙ ap (λ (y : ℕ). magnitude wide y (t * 2 ^ more)) (sym (suc-add x lift))
 
   -- moved up by j, until the leading digit is where a normal number has it
-  pub kept-subnormal : (j t : ℕ) → j ≤ W .lift → leading narrow ≤ t * 2 ^ j → magnitude narrow 0 t ≡ magnitude wide (suc (W .lift - j)) (t * 2 ^ (j + W .more) - leading wide)
+  pub kept-subnormal : (j t : ℕ) → j ≤ lift → leading narrow ≤ t * 2 ^ j →
+      magnitude narrow 0 t ≡ magnitude wide (suc (lift - j)) (t * 2 ^ (j + more) - leading wide)
   kept-subnormal j t J h =
-      by-smallests 0 t (suc (W .lift - j)) (t * 2 ^ (j + W .more) - leading wide)
-      (lift-subnormal (narrow .fractionBits) (W .more) (wide .fractionBits) (W .lift) j t (W .fractions) J h)
+      by-smallests 0 t (suc (lift - j)) (t * 2 ^ (j + more) - leading wide)
+      (lift-subnormal (narrow .fractionBits) more (wide .fractionBits) lift j t (W .fractions) J h)
 
   low-is : (p t : ℕ) → smallests p 0 t ≡ t
   unfolding smallests
@@ -72,29 +80,37 @@ module _ {narrow wide : Layout} (W : Widens narrow wide) where
   pub kept-zero : magnitude narrow 0 0 ≡ magnitude wide 0 0
   kept-zero =
       by-smallests 0 0 0 0
-      (ap (λ (x : ℕ). x * 2 ^ (W .lift + W .more)) (low-is (narrow .fractionBits) 0) ∙ zero-mul (2 ^ (W .lift + W .more)) ∙ sym (low-is (wide .fractionBits) 0))
+      (ap (λ (x : ℕ). x * 2 ^ (lift + more)) (low-is (narrow .fractionBits) 0) ∙ zero-mul (2 ^ (lift + more))
+      ∙ sym (low-is (wide .fractionBits) 0))
 
-  pub moved-lt : (t : ℕ) → t < leading narrow → t * 2 ^ W .more < leading wide
-  moved-lt t h = subst (λ (x : ℕ). t * 2 ^ W .more < 2 ^ x) (sym (W .fractions)) (shl-lt (narrow .fractionBits) (W .more) h)
+  pub moved-lt : (t : ℕ) → t < leading narrow → t * 2 ^ more < leading wide
+  moved-lt t h = subst (λ (x : ℕ). t * 2 ^ more < 2 ^ x) (sym (W .fractions)) (shl-lt (narrow .fractionBits) more h)
 
   -- every finite number of the narrower format is one of the wider
   pub lifted : (e t : ℕ) → e < allOnes narrow → t < leading narrow
       → (e' : ℕ) × (t' : ℕ) × (e' < allOnes wide) × (t' < leading wide) × (magnitude narrow e t ≡ magnitude wide e' t')
-  lifted (suc x) t E T = (suc x + W .lift, t * 2 ^ W .more, omega (arith, W .high), moved-lt t T, kept-normal (suc x) t (omega arith))
+  lifted (suc x) t E T =
+      (suc x + lift, t * 2 ^ more, omega (arith, W .high), moved-lt t T, kept-normal (suc x) t (omega arith))
   lifted zero t E T = go (eq-zero-or-pos t)
     where
-      go : (t ≡ 0) ⊎ (0 < t) → (e' : ℕ) × (t' : ℕ) × (e' < allOnes wide) × (t' < leading wide) × (magnitude narrow 0 t ≡ magnitude wide e' t')
-      go (inl z) = (0, 0, omega (arith, W .high, W .some), pow-pos (wide .fractionBits), ap (magnitude narrow 0) z ∙ kept-zero)
+      go : (t ≡ 0) ⊎ (0 < t) →
+          (e' : ℕ) × (t' : ℕ) × (e' < allOnes wide) × (t' < leading wide) ×
+          (magnitude narrow 0 t ≡ magnitude wide e' t')
+      go (inl z) =
+          (0, 0, omega (arith, W .high, W .some), pow-pos (wide .fractionBits), ap (magnitude narrow 0) z ∙ kept-zero)
       go (inr n) =
           let m = up-to (narrow .fractionBits) t n T in
           let j = m .0 in (
-            suc (W .lift - j),
-            t * 2 ^ (j + W .more) - leading wide,
-            under (allOnes narrow) (allOnes wide) (W .lift) j (W .high) (W .some) (m .1) (le-trans (m .2) (W .deep)),
-            raised-lt (narrow .fractionBits) (W .more) (wide .fractionBits) j t (W .fractions) (m .3) (m .4),
+            suc (lift - j),
+            t * 2 ^ (j + more) - leading wide,
+            under (allOnes narrow) (allOnes wide) lift j (W .high) (W .some) (m .1) (le-trans (m .2) (W .deep)),
+            raised-lt (narrow .fractionBits) more (wide .fractionBits) j t (W .fractions) (m .3) (m .4),
             kept-subnormal j t (omega (arith, W .deep)) (m .3),
           )
 
-  pub comes-from : (e t e' t' : ℕ) → t < leading narrow → t' < leading wide → magnitude narrow e t ≡ magnitude wide e' t'
-      → Origin (narrow .fractionBits) (W .more) (wide .fractionBits) (W .lift) e t e' t'
-  comes-from e t e' t' T T' h = origin (narrow .fractionBits) (W .more) (wide .fractionBits) (W .lift) e t e' t' (W .fractions) (W .deep) T T' (in-smallests e t e' t' h)
+  pub comes-from : (e t e' t' : ℕ) → t < leading narrow → t' < leading wide →
+      magnitude narrow e t ≡ magnitude wide e' t'
+      → Origin (narrow .fractionBits) more (wide .fractionBits) lift e t e' t'
+  comes-from e t e' t' T T' h =
+      origin (narrow .fractionBits) more (wide .fractionBits) lift e t e' t' (W .fractions) (W .deep) T T'
+      (in-smallests e t e' t' h)
