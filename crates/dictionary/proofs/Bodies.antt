@@ -1,15 +1,12 @@
 -- What a body does in a step, at each of its ends; and that it is what `read_atom` does there, with the value forgotten.
 use mathlib.Core.Path.{_≡_, refl, _∙_, sym, ap}
 use mathlib.Core.Bool.{Bool, true, false, false≢true}
-use mathlib.Core.List.{List, [], _∷_}
+use mathlib.Core.List.{List, []}
 use Prim.Native.Nat.{ℕ, zero, suc, _+_, _-_, _≤_, _<_}
 use native.Mathlib.Omega.{arith}
 use lib.Dec.{ltb, leb}
 use lib.ListN.{length}
 use borrow.Author.Tests.{lt-ltb, le-ltb, le-leb, lt-leb, ltb-true, ltb-false, leb-true, leb-false}
-use types.Run.{OneOf, miss}
-use denote.Enum.Declared.{tagOf}
-use Rattle.types.proofs.Kind.{the-type}
 use Rattle.types.proofs.Specials.{special-unknown}
 use Rattle.types.specs.declared.Way.the-variants as W
 use Rattle.types.specs.declared.Kind.{Kind}
@@ -26,7 +23,7 @@ use Rattle.integer.specs.Integers.{integerKind, allowedCount, integerFrom, inte
 use Rattle.float.specs.Floats.{allowedFloat, floatFrom, floatBody}
 use Rattle.atom.specs.Charges.{countOf, numberCharge}
 use Rattle.atom.specs.Atoms.{specialAtom, integerAfter, floatAfter, bytesAfter, atomAfter}
-use Rattle.dictionary.specs.Wholes.{isString}
+use Rattle.dictionary.specs.Wholes.{known, bodyLength, chargeOf, isString}
 use Rattle.dictionary.specs.Steps.{forgotten, bodyPast, bodyAfter}
 
 -- the four ends of a body
@@ -47,20 +44,24 @@ module _ (size at left : ℕ) (string : Bool) (len charge : ℕ) (why : Refusal)
   unfolding bodyPast
   past-whole h k = simp (le-ltb left charge h, le-leb (at + len) size k)
 
--- an atom of its header only
-pub past-header : (size at left : ℕ) (why : Refusal) → at ≤ size → SK.Past (record { 0 = at }) (record { 0 = left }) (record { 0 = at }) false ≡ bodyPast size at left false 0 0 true why
-past-header size at left why h =
-    let a : at + 0 ≡ at = omega arith in
-    let b : left - 0 ≡ left = omega arith in
-    sym (past-whole size at left false 0 0 why (omega arith) (omega arith) ∙ rw (a, b) refl)
+-- an atom of its header only: a sequence, a map, a symbol, a special that is known
+module _ (size : ℕ) (kind : Kind) (arg at left : ℕ) where
+  pub header-only : (k : Kind) → kind ≡ k → known k arg ≡ true → bodyLength k arg ≡ 0 → chargeOf k arg ≡ 0 →
+      isString k ≡ false → at ≤ size →
+      SK.Past (record { 0 = at }) (record { 0 = left }) (record { 0 = at }) false ≡ bodyAfter size kind arg at left
+  unfolding bodyPast
+  header-only k e known-is none free no-string within =
+      let a : at + 0 ≡ at = omega arith in
+      let b : left - 0 ≡ left = omega arith in
+      rw (e, known-is, none, free, no-string) (simp (le-ltb left 0 (omega arith), a, b, le-leb at size within))
 
-pub past-special : (size at left arg : ℕ) → at ≤ size → arg < 7 → SK.Past (record { 0 = at }) (record { 0 = left }) (record { 0 = at }) false ≡ bodyAfter size K.Special arg at left
-past-special size at left arg h k = rw (lt-ltb arg 7 k) (past-header size at left (R.UnknownSpecial arg) h)
-
-pub past-other : (size at left arg : ℕ) → 7 ≤ arg → SK.Refused (record { 0 = at }) (record { 0 = left }) (R.UnknownSpecial arg) ≡ bodyAfter size K.Special arg at left
-past-other size at left arg k =
-    let b : left - 0 ≡ left = omega arith in
-    rw (le-ltb arg 7 k) (sym (past-unknown size at left false 0 0 (R.UnknownSpecial arg) (omega arith) ∙ rw b refl))
+  -- a special that is not
+  pub special-other : kind ≡ K.Special → 7 ≤ arg →
+      SK.Refused (record { 0 = at }) (record { 0 = left }) (R.UnknownSpecial arg) ≡ bodyAfter size kind arg at left
+  unfolding bodyPast
+  special-other e h =
+      let b : left - 0 ≡ left = omega arith in
+      rw (e, le-ltb arg 7 h) (simp (le-ltb left 0 (omega arith), b))
 
 module _ (s : List ℕ) (arg : ℕ) (next : Place) (budget : Budget) where
   -- a special
@@ -77,12 +78,20 @@ module _ (s : List ℕ) (arg : ℕ) (next : Place) (budget : Budget) where
       none : (n : ℕ) → suc (suc (suc (suc (suc (suc (suc n)))))) < 7 → ⊥
       none n h = omega arith
 
-  special-other : 7 ≤ arg → forgotten (H.Read next K.Special arg) (atomAfter W.ExactLent s K.Special arg next budget []) ≡ SK.Refused next budget (R.UnknownSpecial arg)
-  special-other k = ap (λ (a : SpecialAnswer). forgotten (H.Read next K.Special arg) (specialAtom arg next budget a)) (special-unknown arg k)
+  special-refused : 7 ≤ arg →
+      forgotten (H.Read next K.Special arg) (atomAfter W.ExactLent s K.Special arg next budget [])
+      ≡ SK.Refused next budget (R.UnknownSpecial arg)
+  special-refused k = ap (λ (a : SpecialAnswer). forgotten (H.Read next K.Special arg) (specialAtom arg next budget a)) (special-unknown arg k)
 
-  special-after : next .0 ≤ length s → (t : Bool) → ltb arg 7 ≡ t → forgotten (H.Read next K.Special arg) (atomAfter W.ExactLent s K.Special arg next budget []) ≡ bodyAfter (length s) K.Special arg (next .0) (budget .0)
-  special-after h true e = special-known arg (ltb-true arg 7 e) ∙ past-special (length s) (next .0) (budget .0) arg h (ltb-true arg 7 e)
-  special-after h false e = special-other (ltb-false arg 7 e) ∙ past-other (length s) (next .0) (budget .0) arg (ltb-false arg 7 e)
+  special-after : next .0 ≤ length s → (t : Bool) → ltb arg 7 ≡ t →
+      forgotten (H.Read next K.Special arg) (atomAfter W.ExactLent s K.Special arg next budget [])
+      ≡ bodyAfter (length s) K.Special arg (next .0) (budget .0)
+  special-after h true e =
+      special-known arg (ltb-true arg 7 e)
+      ∙ header-only (length s) K.Special arg (next .0) (budget .0) K.Special refl e refl refl refl h
+  special-after h false e =
+      special-refused (ltb-false arg 7 e)
+      ∙ special-other (length s) K.Special arg (next .0) (budget .0) refl (ltb-false arg 7 e)
 
   -- a number, by the tests that it passes
   integer-after : (kind : Kind) → integerKind kind ≡ true → (t u v : Bool) → ltb (budget .0) (numberCharge (countOf arg)) ≡ t → allowedCount (countOf arg) ≡ u → leb (next .0 + countOf arg) (length s) ≡ v → forgotten (H.Read next kind arg) (integerAfter W.ExactLent s kind arg next budget) ≡ bodyPast (length s) (next .0) (budget .0) (isString kind) (countOf arg) (numberCharge (countOf arg)) (allowedCount (countOf arg)) (R.UnsupportedByteCount kind (countOf arg))
@@ -112,25 +121,10 @@ module _ (s : List ℕ) (arg : ℕ) (next : Place) (budget : Budget) where
   after-header K.Int h = integer-after K.Int refl (ltb (budget .0) (numberCharge (countOf arg))) (allowedCount (countOf arg)) (leb (next .0 + countOf arg) (length s)) refl refl refl
   after-header K.UInt h = integer-after K.UInt refl (ltb (budget .0) (numberCharge (countOf arg))) (allowedCount (countOf arg)) (leb (next .0 + countOf arg) (length s)) refl refl refl
   after-header K.Float h = float-after (ltb (budget .0) (numberCharge (countOf arg))) (allowedFloat (countOf arg)) (leb (next .0 + countOf arg) (length s)) refl refl refl
-  after-header K.Sequence h = past-header (length s) (next .0) (budget .0) R.Eof h
-  after-header K.Map h = past-header (length s) (next .0) (budget .0) R.Eof h
-  after-header K.Symbol h = past-header (length s) (next .0) (budget .0) R.Eof h
+  after-header K.Sequence h = header-only (length s) K.Sequence arg (next .0) (budget .0) K.Sequence refl refl refl refl refl h
+  after-header K.Map h = header-only (length s) K.Map arg (next .0) (budget .0) K.Map refl refl refl refl refl h
+  after-header K.Symbol h = header-only (length s) K.Symbol arg (next .0) (budget .0) K.Symbol refl refl refl refl refl h
   after-header K.Bytes h = string-after h (ltb (budget .0) arg) (leb (next .0 + arg) (length s)) refl refl
-
--- what holds of Int and UInt alike, by the tag that led there
-pub integral : (size at left count : ℕ) (allowed : Bool) (k : Kind) (arg : ℕ) → OneOf (1 ∷ 2 ∷ []) (tagOf the-type k) → count ≡ countOf arg → allowed ≡ allowedCount count → bodyPast size at left false count (numberCharge count) allowed (R.UnsupportedByteCount k count) ≡ bodyAfter size k arg at left
-integral size at left count allowed K.Special arg h e a = absurd (miss (1 ∷ 2 ∷ []) 0 tt h)
-integral size at left count allowed K.Int arg h e a = rw (a, e) refl
-integral size at left count allowed K.UInt arg h e a = rw (a, e) refl
-integral size at left count allowed K.Float arg h e a = absurd (miss (1 ∷ 2 ∷ []) 3 tt h)
-integral size at left count allowed K.Sequence arg h e a = absurd (miss (1 ∷ 2 ∷ []) 4 tt h)
-integral size at left count allowed K.Map arg h e a = absurd (miss (1 ∷ 2 ∷ []) 5 tt h)
-integral size at left count allowed K.Symbol arg h e a = absurd (miss (1 ∷ 2 ∷ []) 6 tt h)
-integral size at left count allowed K.Bytes arg h e a = absurd (miss (1 ∷ 2 ∷ []) 7 tt h)
-
--- and of Float
-pub floating : (size at left count : ℕ) (allowed : Bool) (k : Kind) (arg : ℕ) → k ≡ K.Float → count ≡ countOf arg → allowed ≡ allowedFloat count → bodyPast size at left false count (numberCharge count) allowed (R.UnsupportedByteCount k count) ≡ bodyAfter size k arg at left
-floating size at left count allowed k arg h e a = rw (a, e, h) refl
 
 -- a body that was passed: its charge was within the budget, it is known and whole
 pub record Passed (size at left : ℕ) (string : Bool) (len charge : ℕ) (allowed : Bool) (place rest body : ℕ) (t : Bool) : Type 0 where

@@ -17,6 +17,7 @@ use Rattle.types.specs.declared.Budget.{Budget}
 use Rattle.types.specs.declared.Refusal.the-variants as R
 use Rattle.types.specs.declared.HeaderAnswer.{HeaderAnswer}
 use Rattle.types.specs.declared.HeaderAnswer.the-variants as H
+use Rattle.types.specs.declared.Skipped.{Skipped}
 use Rattle.types.specs.declared.Skipped.the-variants as SK
 use Rattle.header.specs.Header.{headerFrom, headerRead, headerKind, headerArgument, headerLength}
 use Rattle.header.proofs.Fewest.{length-bounds}
@@ -117,3 +118,22 @@ module _ (s : List ℕ) (at : ℕ) (within : at ≤ length s) (budget : Budget) 
 
   pub forward : skipped s at budget ≡ SK.Past place rest body t → Forward s at (budget .0) (place .0) (rest .0) (body .0)
   forward e = forward-at (leb (at + headerLength (drop at s)) (length s)) refl e
+
+-- what the loops have of a step that passed an atom: the body starts before its end, within the source, the budget never rises,
+-- and fewer bytes are left
+module _ (s : List ℕ) (at left : ℕ) (r : Skipped) (place : Place) (rest : Budget) (body : Place) (t : Bool)
+    (q : r ≡ skipped s at (record { 0 = left })) (p : r ≡ SK.Past place rest body t) (h : at < length s) where
+  pub went : Forward s at left (place .0) (rest .0) (body .0)
+  went = forward s at (omega arith) (record { 0 = left }) place rest body t (sym q ∙ p)
+
+  pub step-starts : body .0 ≤ place .0
+  step-starts = went .after
+
+  pub step-inside : place .0 ≤ length s
+  step-inside = went .inside
+
+  pub step-falls : rest .0 ≤ left
+  step-falls = went .falls
+
+  pub step-less : length s - place .0 < length s - at
+  step-less = let w = went in omega arith
