@@ -3,11 +3,10 @@
 use mathlib.Core.Path.{_≡_, refl, _∙_, sym}
 use mathlib.Core.Bool.{Bool, true, false, false≢true}
 use mathlib.Core.List.{List}
-use Prim.Native.Nat.{ℕ, zero, suc, _-_, _≤_, _<_}
+use Prim.Native.Nat.{ℕ, zero, suc, _≤_, _<_}
 use native.Mathlib.Omega.{arith}
 use lib.Dec.{ltb, leb}
-use lib.ListN.{length, take, drop, length-drop}
-use lib.Seq.{take-all}
+use lib.ListN.{length}
 use borrow.Author.Tests.{ltb-true, leb-true, leb-false, le-ltb, lt-leb}
 use Rattle.types.specs.Choice.{pick}
 use Rattle.types.specs.declared.Way.the-variants as W
@@ -53,10 +52,6 @@ stop-all s false = stop-from (suc (length s)) s 0 nothing
 
 pub stop-within : (s : List ℕ) → stopAt (tallyAll s) ≤ length s
 stop-within s = stop-all s (ltb mostBytes (length s))
-
--- the part after the signature, as it is lent
-pub rest-of : (xs : List ℕ) (a : ℕ) → take (length xs - a) (drop a xs) ≡ drop a xs
-rest-of xs a = take-all (length xs - a) (drop a xs) (simp length-drop (omega arith))
 
 -- whether a signature was read
 abbrev pub isRead : VersionAnswer → Bool
