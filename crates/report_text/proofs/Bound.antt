@@ -7,7 +7,9 @@ use mathlib.Core.Logic.{⊎-elim}
 use Prim.Native.Nat.{ℕ, suc, _+_, _%_, _^_, _≤_, _<_}
 use native.Mathlib.Omega.{arith}
 use lib.Dec.{ltb, leb}
-use lib.ListN.{length, drop, length-append, length-drop}
+use lib.ListN.{length, take, drop, length-append, length-drop}
+use lib.Seq.{length-take-le}
+use borrow.Author.Needs.{needs}
 use borrow.Author.Tests.{ltb-false}
 use Rattle.types.specs.Choice.{pick}
 use Rattle.types.specs.Counters.{placeIn}
@@ -172,27 +174,30 @@ pub text-most : (file : List ℕ) → length (reportText (reportOf file)) ≤ 79
 unfolding reportOf
 text-most file = judged-most file (ltb mostFileBytes (length file)) refl
 
--- so that a buffer of that length has its room
-pub text-room : (file old : List ℕ) → 79 ≤ length old → writtenAnswer (reportText (reportOf file)) old ≡ WR.Count (length (reportText (reportOf file)))
-text-room file old h = let m = text-most file in answer-room (reportText (reportOf file)) old (omega arith)
+-- so that in a buffer of that length it is never refused, and stands there whole
+module _ (file old : List ℕ) (answer : Written) (room : length old ≡ 79)
+    (e : answer ≡ writtenAnswer (reportText (reportOf file)) old) where
+  whole : answer ≡ WR.Count (length (reportText (reportOf file)))
+  whole = let m = text-most file in e ∙ answer-room (reportText (reportOf file)) old (omega arith)
 
--- what is answered where there is that room, and what stands in the buffer
-module _ (file old : List ℕ) (h : 79 ≤ length old) where
-  pub room-count : (n : ℕ) → writtenAnswer (reportText (reportOf file)) old ≡ WR.Count n → n ≡ length (reportText (reportOf file))
-  room-count n e = ap countOf (sym e ∙ text-room file old h)
-    where
-      countOf : Written → ℕ
-      countOf (WR.Count n) = n
-      countOf (WR.Refused r) = 0
+  module _ (n : ℕ) (d : answer ≡ WR.Count n) where
+    pub text-counted : n ≡ length (reportText (reportOf file))
+    text-counted = let w = whole in cc
 
-  pub room-taken : (r : Refusal) → writtenAnswer (reportText (reportOf file)) old ≡ WR.Refused r → ⊥
-  room-taken r e =
-      let no : WR.Count (length (reportText (reportOf file))) ≡ WR.Refused r = sym (text-room file old h) ∙ e in
-      false≢true cc
+    pub text-within : (new : List ℕ) → new ≡ writtenContent (reportText (reportOf file)) old → n ≤ length new
+    text-within new w =
+        let text : List ℕ = reportText (reportOf file) in
+        let m = text-most file in
+        let c = text-counted in
+        let l : length new ≡ length text + length (drop (length text) old) =
+        ap length (w ∙ content-room text old (omega arith)) ∙ length-append text (drop (length text) old)
+        in
+        omega arith
 
-  pub room-holds : (new : List ℕ) → new ≡ writtenContent (reportText (reportOf file)) old → length (reportText (reportOf file)) ≤ length new
-  room-holds new e =
-      let text : List ℕ = reportText (reportOf file) in
-      let m = text-most file in
-      let n : length new ≡ length text + length (drop (length text) old) = ap length (e ∙ content-room text old (omega arith)) ∙ length-append text (drop (length text) old) in
-      omega arith
+    pub text-front : (new : List ℕ) → new ≡ writtenContent (reportText (reportOf file)) old → n ≡ length (take n new)
+    text-front new w = sym (length-take-le n new (text-within new w))
+
+  pub never-refused : (why : Refusal) → answer ≡ WR.Refused why → ⊥
+  never-refused why d = let w = whole in false≢true cc
+
+pub ruleset room-ends = (text-counted, text-within, text-front, never-refused, needs)

@@ -7,7 +7,7 @@ use Prim.Native.Nat.{ℕ, zero, suc, _+_, _-_, _*_, _/_, _%_, _^_, _≤_, _<_}
 use native.Mathlib.Nat.{pow-suc, one-le-pow}
 use native.Mathlib.Omega.{arith}
 use lib.Dec.{ltb, leb}
-use lib.ListN.{length, take, length-append}
+use lib.ListN.{length, length-append}
 use borrow.Author.Tests.{lt-ltb, le-ltb, le-leb, ltb-true, ltb-false}
 use Rattle.io.specs.Digits.{glyph, digits, Fewest}
 use Rattle.report_text.specs.Texts.{digit, digitsFrom, decimal}
@@ -148,15 +148,9 @@ spelled (suc k) (suc fuel) n h l least =
     ∙ ap (λ (d : ℕ). digitsFrom fuel (n / 10) ++ (d ∷ [])) (glyph-digit (n % 10) (omega arith))
     ∙ sym (more-digits fuel n ten)
 
-fewest : (n k : ℕ) → Fewest 10 1 n k → digits 10 k n ≡ decimal n
+-- THE DIGITS OF `io::decimal` ARE THESE
+pub fewest : (n k : ℕ) → Fewest 10 1 n k → digits 10 k n ≡ decimal n
 fewest n zero f = absurd (omega (arith, f .0))
 fewest n (suc k) f =
     let e : suc k - 1 ≡ k = omega arith in
     spelled k (suc n) n (omega arith) (f .1) (λ two. subst (λ (j : ℕ). 10 ^ j ≤ n) e (f .2 two))
-
--- THE DIGITS OF `io::decimal` ARE THESE, at most twenty of a number of 64 bits
-pub spelt : (n k : ℕ) (out : List ℕ) → Fewest 10 1 n k → take k out ≡ digits 10 k n → take k out ≡ decimal n
-spelt n k out f e = e ∙ fewest n k f
-
-pub few : (n k : ℕ) (out : List ℕ) → n < 10 ^ 20 → Fewest 10 1 n k → take k out ≡ digits 10 k n → length (take k out) ≤ 20
-few n k out h f e = let m = decimal-most 19 n h in rw (spelt n k out f e) m
