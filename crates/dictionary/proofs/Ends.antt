@@ -30,7 +30,8 @@ use Rattle.float.specs.Floats.{allowedFloat}
 use Rattle.atom.specs.Charges.{countOf, numberCharge}
 use Rattle.atom.specs.Atoms.{atomRead, atomFrom}
 use Rattle.dictionary.specs.Steps.{forgotten, skipped, bodyPast, bodyAfter}
-use Rattle.dictionary.proofs.Bodies.{past-over, past-unknown, past-eof, past-whole, header-only, special-other, after-header}
+use Rattle.dictionary.proofs.Bodies.{past-over, past-unknown, past-eof, past-whole, header-only, special-other}
+use Rattle.dictionary.proofs.Bodies.{after-header}
 
 -- a body whose charge is known: the charge exceeds the budget
 module _ (size at left : ℕ) (string : Bool) (len price charge : ℕ) (allowed : Bool) (why : Refusal)
@@ -86,7 +87,8 @@ module _ (size : ℕ) (kind : Kind) (arg at left : ℕ) (r : Skipped) where
     pub float-body : kind ≡ K.Float → allowed ≡ allowedFloat count → r ≡ bodyAfter size kind arg at left
     float-body k a = rw (k, ← counted, ← a) (rw k at e)
 
-  pub string-body : kind ≡ K.Bytes → r ≡ bodyPast size at left true arg arg true R.Eof → r ≡ bodyAfter size kind arg at left
+  pub string-body : kind ≡ K.Bytes → r ≡ bodyPast size at left true arg arg true R.Eof →
+      r ≡ bodyAfter size kind arg at left
   string-body k e = rw k e
 
 pub ruleset kind-ends = (header-only, special-other, integer-body, float-body, string-body, lt-ltb, needs)

@@ -1,4 +1,5 @@
--- Letters of a string that is taken byte by byte and part by part: what the loops that count them keep, and what they answer.
+-- Letters of a string that is taken byte by byte and part by part: what the loops that count them keep, and what they
+-- answer.
 use mathlib.Core.Path.{_≡_, refl, _∙_, sym, ap}
 use mathlib.Core.Bool.{Bool, true, false}
 use mathlib.Core.List.{List, [], _∷_, _++_}
@@ -36,7 +37,9 @@ module _ (a : List ℕ) (count i : ℕ) (c : Counting a count i) where
   pub byte-counted : (n : ℕ) → i < length a → n ≡ letter (getD a i 0) → n ≤ 1 → Counting a (count + n) (i + 1)
   unfolding letters
   byte-counted n h e one =
-      let k : count + (letter (getD a i 0) + letters (drop (suc i) a)) ≡ letters a = rw (drop-cons a i 0 h) at (c .whole) in
+      let k : count + (letter (getD a i 0) + letters (drop (suc i) a)) ≡ letters a =
+      rw (drop-cons a i 0 h) at (c .whole)
+      in
       let f = c .few in
       record { within = omega arith; few = omega arith; whole = rw add-one (omega arith) }
 

@@ -41,7 +41,8 @@ module _ (s : List ℕ) (all : Budget) (atoms at left : ℕ) (i : Running s all 
 
     -- passed by the step, and refused by it
     module _ (r : Skipped) (place : Place) (rest : Budget) (q : r ≡ skipped s at (record { 0 = left })) where
-      pub turn : (body : Place) (t : Bool) → r ≡ SK.Past place rest body t → Running s all (atoms + 1) (place .0) (rest .0)
+      pub turn : (body : Place) (t : Bool) → r ≡ SK.Past place rest body t →
+          Running s all (atoms + 1) (place .0) (rest .0)
       turn body t p =
           let w = went s at left r place rest body t q p h in
           let a = w .takes in

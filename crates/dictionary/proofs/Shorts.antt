@@ -48,7 +48,8 @@ module _ (s : List ℕ) (at left : ℕ) (within : at < length s) where
   whole kind count end m k known-is long costs string e inside paid =
       let c : count ≡ end - (at + 1) = omega arith in
       let past =
-      past-whole (length s) (at + 1) left (isString kind) count count (unknown kind (getD s at 0 % 16)) paid (omega arith)
+      past-whole (length s) (at + 1) left (isString kind) count count (unknown kind (getD s at 0 % 16)) paid
+      (omega arith)
       in
       cc (alone m, past)
 
@@ -66,7 +67,8 @@ module _ (s : List ℕ) (at left : ℕ) (within : at < length s) where
       ShortPast s at left (at + 1 + getD s at 0 % 16)
   short-string b h paid =
       let seven : getD s at 0 / 32 ≡ 7 = omega arith in
-      whole K.Bytes (getD s at 0 % 16) _ (ap (λ (n : ℕ). eqb (n % 2) 1) b) (ap (λ (n : ℕ). kindKnown (kindFrom n)) seven) refl
+      whole K.Bytes (getD s at 0 % 16) _ (ap (λ (n : ℕ). eqb (n % 2) 1) b)
+      (ap (λ (n : ℕ). kindKnown (kindFrom n)) seven) refl
       refl refl (sym (le-leb 0xE0 (getD s at 0) (omega arith))) refl (omega arith) paid
 
   -- a sequence

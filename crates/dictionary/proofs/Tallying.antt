@@ -1,5 +1,5 @@
--- The tally's loop: what holds before each turn, what a turn keeps of it, and what the tally answers at its ends. The sums are
--- bounded by the bytes passed, of which there are at most 16,777,216, so that none wraps.
+-- The tally's loop: what holds before each turn, what a turn keeps of it, and what the tally answers at its ends. The
+-- sums are bounded by the bytes passed, of which there are at most 16,777,216, so that none wraps.
 use mathlib.Core.Path.{_≡_, _∙_, sym}
 use mathlib.Core.Bool.{Bool}
 use mathlib.Core.List.{List}
@@ -47,7 +47,8 @@ tally-begins s = record {
 module _ (s : List ℕ) (atoms body charge signs at : ℕ) (i : Tallying s atoms body charge signs at) where
   module _ (h : at < length s) where
     -- an atom that is passed, with so many letters
-    passed : (place : Place) (rest : Budget) (from : Place) (string : Bool) (n : ℕ) → at < from .0 → from .0 ≤ place .0 →
+    passed : (place : Place) (rest : Budget) (from : Place) (string : Bool) (n : ℕ) → at < from .0 →
+        from .0 ≤ place .0 →
         place .0 ≤ length s → 3 * (unlimited - rest .0) ≤ 4 * (place .0 - from .0) → n + from .0 ≤ place .0 →
         n ≡ pick string (letters (take (place .0 - from .0) (drop (from .0) s))) 0 →
         skipped s at (record { 0 = unlimited }) ≡ SK.Past place rest from string →
@@ -69,12 +70,14 @@ module _ (s : List ℕ) (atoms body charge signs at : ℕ) (i : Tallying s atoms
     -- passed by its first byte
     pub short-tally : (short n : ℕ) → at < short → short ≤ length s → short - (at + 1) ≤ unlimited →
         (at < short → ShortPast s at unlimited short) →
-        n ≡ pick (leb 0xE0 (getD s at 0)) (letters (take (short - (at + 1)) (drop (at + 1) s))) 0 → n + (at + 1) ≤ short →
+        n ≡ pick (leb 0xE0 (getD s at 0)) (letters (take (short - (at + 1)) (drop (at + 1) s))) 0 →
+        n + (at + 1) ≤ short →
         Tallying s (atoms + 1) (body + (short - (at + 1))) (charge + (short - (at + 1))) (signs + n) short
     short-tally short n k inside afforded e m most =
         let z : unlimited - (unlimited - (short - (at + 1))) ≡ short - (at + 1) = omega arith in
         rw z at
-        (passed (record { 0 = short }) _ (record { 0 = at + 1 }) _ n (omega arith) (omega arith) inside (omega arith) most m (e k))
+        (passed (record { 0 = short }) _ (record { 0 = at + 1 }) _ n (omega arith) (omega arith) inside (omega arith)
+        most m (e k))
 
     module _ (r : Skipped) (end : Place) (rest : Budget) (q : r ≡ skipped s at (record { 0 = unlimited })) where
       -- passed by the step: no sum wraps

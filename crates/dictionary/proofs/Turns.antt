@@ -1,5 +1,5 @@
--- The turns of the run and of the tally, by what the step answers; and what holds before each turn of such a walk. The run is
--- defined over `read_atom`: the step's answer says what that was.
+-- The turns of the run and of the tally, by what the step answers; and what holds before each turn of such a walk. The
+-- run is defined over `read_atom`: the step's answer says what that was.
 use mathlib.Core.Path.{_≡_, refl, _∙_, sym}
 use mathlib.Core.Bool.{Bool, false≢true}
 use mathlib.Core.List.{List, []}
@@ -25,29 +25,32 @@ use Rattle.dictionary.specs.Steps.{forgotten, skipped}
 use Rattle.dictionary.specs.Runs.{afterAtom, runFrom, tallyFrom, added, unlimited}
 
 -- what the forgotten value leaves of an atom's read
-module _ {X : Type 0} (on : Place → Budget → X) (stop : Place → Budget → Refusal → X) (place : Place) (rest : Budget) where
-  read-past : (h : HeaderAnswer) (a : AtomAnswer) (body : Place) (t : Bool) → forgotten h a ≡ SK.Past place rest body t → afterAtom a on stop ≡ on place rest
-  read-past (H.Read n k x) (A.Read p b y) body t e = cc
-  read-past (H.Read n k x) (A.Refused p b r) body t e = absurd (false≢true cc)
-  read-past (H.Refused n q) (A.Read p b y) body t e = cc
-  read-past (H.Refused n q) (A.Refused p b r) body t e = absurd (false≢true cc)
+module _ {X : Type 0} (on : Place → Budget → X) (stop : Place → Budget → Refusal → X) (place : Place) (rest : Budget)
+  where
+    read-past : (h : HeaderAnswer) (a : AtomAnswer) (body : Place) (t : Bool) →
+        forgotten h a ≡ SK.Past place rest body t → afterAtom a on stop ≡ on place rest
+    read-past (H.Read n k x) (A.Read p b y) body t e = cc
+    read-past (H.Read n k x) (A.Refused p b r) body t e = absurd (false≢true cc)
+    read-past (H.Refused n q) (A.Read p b y) body t e = cc
+    read-past (H.Refused n q) (A.Refused p b r) body t e = absurd (false≢true cc)
 
-  read-refused : (h : HeaderAnswer) (a : AtomAnswer) (why : Refusal) → forgotten h a ≡ SK.Refused place rest why → afterAtom a on stop ≡ stop place rest why
-  read-refused (H.Read n k x) (A.Read p b y) why e = absurd (false≢true cc)
-  read-refused (H.Read n k x) (A.Refused p b r) why e = cc
-  read-refused (H.Refused n q) (A.Read p b y) why e = absurd (false≢true cc)
-  read-refused (H.Refused n q) (A.Refused p b r) why e = cc
+    read-refused : (h : HeaderAnswer) (a : AtomAnswer) (why : Refusal) → forgotten h a ≡ SK.Refused place rest why →
+        afterAtom a on stop ≡ stop place rest why
+    read-refused (H.Read n k x) (A.Read p b y) why e = absurd (false≢true cc)
+    read-refused (H.Read n k x) (A.Refused p b r) why e = cc
+    read-refused (H.Refused n q) (A.Read p b y) why e = absurd (false≢true cc)
+    read-refused (H.Refused n q) (A.Refused p b r) why e = cc
 
-  module _ (s : List ℕ) (at : ℕ) (budget : Budget) where
-    pub atom-past : (body : Place) (t : Bool) → skipped s at budget ≡ SK.Past place rest body t →
-        afterAtom (atomRead W.ExactLent s at budget []) on stop ≡ on place rest
-    unfolding skipped
-    atom-past body t e = read-past (headerRead W.ExactLent s at) (atomRead W.ExactLent s at budget []) body t e
+    module _ (s : List ℕ) (at : ℕ) (budget : Budget) where
+      atom-past : (body : Place) (t : Bool) → skipped s at budget ≡ SK.Past place rest body t →
+          afterAtom (atomRead W.ExactLent s at budget []) on stop ≡ on place rest
+      unfolding skipped
+      atom-past body t e = read-past (headerRead W.ExactLent s at) (atomRead W.ExactLent s at budget []) body t e
 
-    pub atom-refused : (why : Refusal) → skipped s at budget ≡ SK.Refused place rest why →
-        afterAtom (atomRead W.ExactLent s at budget []) on stop ≡ stop place rest why
-    unfolding skipped
-    atom-refused why e = read-refused (headerRead W.ExactLent s at) (atomRead W.ExactLent s at budget []) why e
+      atom-refused : (why : Refusal) → skipped s at budget ≡ SK.Refused place rest why →
+          afterAtom (atomRead W.ExactLent s at budget []) on stop ≡ stop place rest why
+      unfolding skipped
+      atom-refused why e = read-refused (headerRead W.ExactLent s at) (atomRead W.ExactLent s at budget []) why e
 
 -- a turn of the run
 module _ (s : List ℕ) (fuel left at : ℕ) (budget : Budget) (atoms : ℕ) (enough : fuel ≡ suc left) where
@@ -85,12 +88,13 @@ module _ (s : List ℕ) (fuel left at : ℕ) (t : Tallied) (enough : fuel ≡ su
   unfolding tallyFrom
   tally-end h = rw (enough, le-ltb at (length s) h) refl
 
--- BEFORE EACH TURN of a walk over a file's atoms: so many are passed, the place is there, and the rest of the walk, with what it
--- holds by then, is the whole one's
-pub record Walked {X Y : Type 0} (walk : ℕ → List ℕ → ℕ → X → Y) (s : List ℕ) (all : Y) (atoms at : ℕ) (x : X) : Type 0 where
-  pub within : at ≤ length s
-  pub few : atoms ≤ at
-  pub same : walk (suc (length s) - atoms) s at x ≡ all
+-- BEFORE EACH TURN of a walk over a file's atoms: so many are passed, the place is there, and the rest of the walk,
+-- with what it holds by then, is the whole one's
+pub record Walked {X Y : Type 0} (walk : ℕ → List ℕ → ℕ → X → Y) (s : List ℕ) (all : Y) (atoms at : ℕ) (x : X) : Type 0
+  where
+    pub within : at ≤ length s
+    pub few : atoms ≤ at
+    pub same : walk (suc (length s) - atoms) s at x ≡ all
 
 module _ {X Y : Type 0} (walk : ℕ → List ℕ → ℕ → X → Y) (s : List ℕ) where
   pub walk-begins : (x : X) → Walked walk s (walk (suc (length s)) s 0 x) 0 0 x
@@ -101,7 +105,8 @@ module _ {X Y : Type 0} (walk : ℕ → List ℕ → ℕ → X → Y) (s : List 
   module _ (all : Y) (atoms at : ℕ) (x : X) (w : Walked walk s all atoms at x) where
     -- a turn goes on, further in the file
     pub walk-on : (next : ℕ) (y : X) → at < next → next ≤ length s →
-        ((fuel left : ℕ) → fuel ≡ suc left → walk fuel s at x ≡ walk left s next y) → Walked walk s all (atoms + 1) next y
+        ((fuel left : ℕ) → fuel ≡ suc left → walk fuel s at x ≡ walk left s next y) →
+        Walked walk s all (atoms + 1) next y
     walk-on next y h k turn =
         let f = w .few in
         record {

@@ -1,4 +1,5 @@
--- The ends of the report's functions: what the tally and the signature's reader answered, and what is found of the file.
+-- The ends of the report's functions: what the tally and the signature's reader answered, and what is found of the
+-- file.
 use mathlib.Core.Path.{_≡_, _∙_, sym, ap, subst}
 use mathlib.Core.List.{List}
 use Prim.Native.Nat.{ℕ, _+_, _-_, _*_, _^_, _≤_, _<_}
@@ -46,7 +47,8 @@ module _ (file : List ℕ) (version : ℕ) (answer : TallyAnswer)
         let n = length-drop 4 file in
         omega arith
 
-    pub atom-refused : RP.Refused why (record { 0 = 4 + start .0 }) ≡ counted file version (tallyAll (afterSignature file))
+    pub atom-refused :
+        RP.Refused why (record { 0 = 4 + start .0 }) ≡ counted file version (tallyAll (afterSignature file))
     atom-refused = cc found
 
 pub ruleset count-ends = (all-tallied, start-fits, atom-refused, needs)
@@ -63,12 +65,14 @@ module _ (file : List ℕ) (answer : VersionAnswer) (place : Place) (e : answer 
     pub has-signature : 4 ≤ length file
     has-signature = read-long file (ap isRead (sym e ∙ d))
 
-    pub file-counted : (r : Report) → length file ≤ 65_536 → r ≡ counted file version (tallyAll (afterSignature file)) → r ≡ reportOf file
+    pub file-counted : (r : Report) → length file ≤ 65_536 → r ≡ counted file version (tallyAll (afterSignature file)) →
+        r ≡ reportOf file
     unfolding reportOf
     file-counted r h c = cc (le-ltb 65_536 (length file) h)
 
   -- it was refused
-  pub signature-refused : (why : Refusal) → length file ≤ 65_536 → answer ≡ VA.Refused place why → RP.Refused why (record { 0 = 0 }) ≡ reportOf file
+  pub signature-refused : (why : Refusal) → length file ≤ 65_536 → answer ≡ VA.Refused place why →
+      RP.Refused why (record { 0 = 0 }) ≡ reportOf file
   unfolding reportOf
   signature-refused why h d = cc (le-ltb 65_536 (length file) h)
 

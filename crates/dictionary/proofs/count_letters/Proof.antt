@@ -11,13 +11,19 @@ Inv-loop string count₀ i₀ count i = Counting string count i
 abbrev μ-loop : tie.MeasureT-loop
 μ-loop string count₀ i₀ count i = length string - i
 
+loop-holds : tie.Need-loop-holds Inv-loop μ-loop
+loop-holds c = search counting-ends
+
+loop-again : tie.Need-loop-again Inv-loop μ-loop
+loop-again c = search counting-ends
+
 pub count-letters-spec : {M : Type 1} → statement M
 count-letters-spec =
     tie.close
     (tie.spec
     Inv-loop
     μ-loop
-    (λ c. search counting-ends)
+    loop-holds
     (λ c κs. search counting-ends)
     (λ c. search counting-ends)
     (λ c. search counting-ends)
@@ -26,5 +32,5 @@ count-letters-spec =
     (λ c. search counting-ends)
     (λ c. search counting-ends)
     (λ c. search counting-ends)
-    (λ c. search counting-ends)
+    loop-again
     (λ c. search counting-ends))

@@ -11,13 +11,16 @@ Inv-loop part count₀ i₀ count i = Counting part count i
 abbrev μ-loop : tie.MeasureT-loop
 μ-loop part count₀ i₀ count i = length part - i
 
+loop-holds : tie.Need-loop-holds Inv-loop μ-loop
+loop-holds c = search counting-ends
+
 pub letters-in-part-spec : {M : Type 1} → statement M
 letters-in-part-spec =
     tie.close
     (tie.spec
     Inv-loop
     μ-loop
-    (λ c. search counting-ends)
+    loop-holds
     (λ c. search counting-ends)
     (λ c κs. search counting-ends)
     (λ c. search counting-ends)

@@ -1,5 +1,5 @@
--- `dictionary::run` meets its contract: a turn of the loop is a turn of the definition. Each atom takes a byte at least, so
--- that the bytes left are the measure.
+-- `dictionary::run` meets its contract: a turn of the loop is a turn of the definition. Each atom takes a byte at
+-- least, so that the bytes left are the measure.
 use Prim.Native.Nat.{_-_}
 use lib.ListN.{length}
 use Rattle.dictionary.proofs.Running.{Running, run-laws}
@@ -14,6 +14,9 @@ abbrev μ-loop : tie.MeasureT-loop
 
 loop-again : tie.Need-loop-again Inv-loop μ-loop
 loop-again c = search run-laws
+
+loop-again-2 : tie.Need-loop-again-2 Inv-loop μ-loop
+loop-again-2 c = search run-laws
 
 returns : tie.Need-returns Inv-loop μ-loop
 returns c = search run-laws
@@ -39,7 +42,7 @@ run-spec =
     (λ c. search run-laws)
     (λ c. search run-laws)
     (λ c. search run-laws)
-    (λ c. search run-laws)
+    loop-again-2
     (λ c. search run-laws)
     returns
     returns-2)

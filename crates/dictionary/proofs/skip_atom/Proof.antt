@@ -3,6 +3,12 @@ use Rattle.dictionary.proofs.Ends.{atom-ends}
 use Rattle.dictionary.proofs.skip_atom.Statement.{statement}
 use Rattle.dictionary.proofs.skip_atom.Tie as tie
 
+returns : tie.Need-returns
+returns c = search atom-ends
+
+returns-2 : tie.Need-returns-2
+returns-2 c = search atom-ends
+
 pub skip-atom-spec : {M : Type 1} → statement M
 skip-atom-spec =
     tie.close
@@ -10,6 +16,6 @@ skip-atom-spec =
     (λ c κs. search atom-ends)
     (λ c. search atom-ends)
     (λ c κs. search atom-ends)
+    returns
     (λ c. search atom-ends)
-    (λ c. search atom-ends)
-    (λ c. search atom-ends))
+    returns-2)

@@ -3,14 +3,20 @@ use Rattle.report.proofs.Ends.{judge-ends}
 use Rattle.report.proofs.judge.Statement.{statement}
 use Rattle.report.proofs.judge.Tie as tie
 
+returns : tie.Need-returns
+returns c = search judge-ends
+
+returns-2 : tie.Need-returns-2
+returns-2 c = search judge-ends
+
 pub judge-spec : {M : Type 1} → statement M
 judge-spec =
     tie.close
     (tie.spec
-    (λ c. search judge-ends)
+    returns
     (λ c κs. search judge-ends)
     (λ c. search judge-ends)
     (λ c κs. search judge-ends)
-    (λ c. search judge-ends)
+    returns-2
     (λ c. search judge-ends)
     (λ c. search judge-ends))

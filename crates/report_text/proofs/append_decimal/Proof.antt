@@ -3,6 +3,9 @@ use Rattle.report_text.proofs.Ends.{decimal-ends}
 use Rattle.report_text.proofs.append_decimal.Statement.{statement}
 use Rattle.report_text.proofs.append_decimal.Tie as tie
 
+returns : tie.Need-returns
+returns c = search decimal-ends
+
 pub append-decimal-spec : {M : Type 1} → statement M
 append-decimal-spec =
     tie.close
@@ -12,4 +15,4 @@ append-decimal-spec =
     (λ c. search decimal-ends)
     (λ c κs. search decimal-ends)
     (λ c. search decimal-ends)
-    (λ c. search decimal-ends))
+    returns)

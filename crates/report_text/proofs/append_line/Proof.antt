@@ -3,6 +3,9 @@ use Rattle.report_text.proofs.Ends.{line-ends}
 use Rattle.report_text.proofs.append_line.Statement.{statement}
 use Rattle.report_text.proofs.append_line.Tie as tie
 
+returns : tie.Need-returns
+returns c = search line-ends
+
 pub append-line-spec : {M : Type 1} → statement M
 append-line-spec =
     tie.close
@@ -12,4 +15,4 @@ append-line-spec =
     (λ c. search line-ends)
     (λ c κs. search line-ends)
     (λ c. search line-ends)
-    (λ c. search line-ends))
+    returns)

@@ -1,4 +1,5 @@
--- `report_text::put_counted` meets its contract: three lines and the tally's four, one after the other, from the text's start.
+-- `report_text::put_counted` meets its contract: three lines and the tally's four, one after the other, from the text's
+-- start.
 use native.Mathlib.Omega.{arith}
 use borrow.Author.Needs.{needs}
 use Rattle.report_text.proofs.Ends.{counted-put}

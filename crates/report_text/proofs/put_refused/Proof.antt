@@ -14,7 +14,8 @@ returns c =
     let numbered : tie.After-append-line2 = search in
     let placed : tie.After-append-line3 = search in
     let text =
-    refused-put (a .refusal) (number .number .result) (a .start .0) (number .number .ensures) (ok .append-line .ensures .1)
+    refused-put (a .refusal) (number .number .result) (a .start .0) (number .number .ensures)
+    (ok .append-line .ensures .1)
     (numbered .append-line2 .ensures .1) (placed .append-line3 .ensures .1)
     in
     (omega arith, text)
