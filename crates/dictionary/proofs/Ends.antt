@@ -28,8 +28,8 @@ use Rattle.reader.proofs.Strings.{start-within}
 use Rattle.integer.specs.Integers.{allowedCount}
 use Rattle.float.specs.Floats.{allowedFloat}
 use Rattle.atom.specs.Charges.{countOf, numberCharge}
-use Rattle.atom.specs.Atoms.{atomRead, atomFrom}
-use Rattle.dictionary.specs.Steps.{forgotten, skipped, bodyPast, bodyAfter}
+use Rattle.atom.specs.Atoms.{atomRead}
+use Rattle.dictionary.specs.Steps.{skipped, bodyPast, bodyAfter}
 use Rattle.dictionary.proofs.Bodies.{past-over, past-unknown, past-eof, past-whole, header-only, special-other}
 use Rattle.dictionary.proofs.Bodies.{after-header}
 

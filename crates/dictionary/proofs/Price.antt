@@ -22,7 +22,7 @@ use Rattle.header.specs.Header.{headerKind, headerArgument, headerLength}
 use Rattle.types.specs.declared.Kind.{Kind}
 use Rattle.types.specs.declared.Kind.the-variants as K
 use Rattle.header.proofs.Fewest.{length-bounds}
-use Rattle.dictionary.specs.Wholes.{known, isString, unknown, IsAtom, price, bodyBytes, lettersIn, Atoms, none}
+use Rattle.dictionary.specs.Wholes.{known, unknown, IsAtom, price, bodyBytes, lettersIn, Atoms, none}
 use Rattle.dictionary.specs.Wholes.{more, total, Spoilt, cut-header, not-known, cut-body}
 use Rattle.dictionary.specs.Prices.{priced, Short, Made, Broken}
 use Rattle.dictionary.specs.Runs.{runFrom, runAll, tallied, tallyFrom, tallyAll, nothing, mostBytes, unlimited}

@@ -15,7 +15,7 @@ use Rattle.types.specs.declared.Ran.{Ran}
 use Rattle.types.specs.declared.Ran.the-variants as RN
 use Rattle.dictionary.specs.Steps.{skipped, ShortPast}
 use Rattle.dictionary.specs.Runs.{runFrom, runAll}
-use Rattle.dictionary.proofs.Steps.{went, step-less}
+use Rattle.dictionary.proofs.Steps.{step-less}
 use Rattle.dictionary.proofs.Turns.{Walked, walk-begins, walk-on, walk-answers, run-on, run-stop, run-end}
 
 -- so many atoms are read, the place is there, so much of the budget is left, and the rest of the run is the whole one's
@@ -30,25 +30,22 @@ run-begins s all = walk-begins running s (all .0, 0)
 
 module _ (s : List ℕ) (all : Budget) (atoms at left : ℕ) (i : Running s all atoms at left) where
   module _ (h : at < length s) where
+    passed : (place : Place) (rest : Budget) (body : Place) (t : Bool) →
+        skipped s at (record { 0 = left }) ≡ SK.Past place rest body t → Running s all (atoms + 1) (place .0) (rest .0)
+    passed place rest body t e =
+        walk-on running s _ atoms at _ i (record { 0 = left }) place rest body t e _
+        (λ fuel later k. run-on s fuel later at (record { 0 = left }) atoms k place rest body t h e)
+
     -- an atom passed by its first byte
-    pub short-turn : (short : ℕ) → at < short → short ≤ length s → (at < short → ShortPast s at left short) →
+    pub short-turn : (short : ℕ) → at < short → (at < short → ShortPast s at left short) →
         Running s all (atoms + 1) short (left - (short - at - 1))
-    short-turn short n b e =
-        let z : short - at - 1 ≡ short - (at + 1) = omega arith in
-        rw z
-        (walk-on running s _ atoms at _ i short _ n b
-        (λ fuel rest k. run-on s fuel rest at (record { 0 = left }) atoms k _ _ _ _ h (e n)))
+    short-turn short n e = let z : short - at - 1 ≡ short - (at + 1) = omega arith in rw z (passed _ _ _ _ (e n))
 
     -- passed by the step, and refused by it
     module _ (r : Skipped) (place : Place) (rest : Budget) (q : r ≡ skipped s at (record { 0 = left })) where
       pub turn : (body : Place) (t : Bool) → r ≡ SK.Past place rest body t →
           Running s all (atoms + 1) (place .0) (rest .0)
-      turn body t p =
-          let w = went s at left r place rest body t q p h in
-          let a = w .takes in
-          let b = w .after in
-          walk-on running s _ atoms at _ i (place .0) _ (omega arith) (w .inside)
-          (λ fuel later k. run-on s fuel later at (record { 0 = left }) atoms k place rest body t h (sym q ∙ p))
+      turn body t p = passed place rest body t (sym q ∙ p)
 
       pub stops : (why : Refusal) → r ≡ SK.Refused place rest why →
           RN.Stopped place rest atoms why (record { 0 = at }) ≡ runAll s all

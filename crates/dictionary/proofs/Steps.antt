@@ -23,7 +23,7 @@ use Rattle.header.specs.Header.{headerFrom, headerRead, headerKind, headerArgum
 use Rattle.header.proofs.Fewest.{length-bounds}
 use Rattle.atom.specs.Charges.{countOf, numberCharge}
 use Rattle.atom.specs.Atoms.{atomRead, atomFrom}
-use Rattle.dictionary.specs.Wholes.{known, bodyLength, chargeOf, isString, unknown}
+use Rattle.dictionary.specs.Wholes.{bodyLength, chargeOf}
 use Rattle.dictionary.specs.Steps.{forgotten, skipped, bodyAfter}
 use Rattle.dictionary.specs.Runs.{unlimited}
 use Rattle.dictionary.proofs.Bodies.{after-header, Passed, passed}

@@ -22,6 +22,7 @@ use Rattle.types.specs.declared.TallyAnswer.the-variants as TA
 use Rattle.header.specs.Header.{headerRead}
 use Rattle.atom.specs.Atoms.{atomRead}
 use Rattle.dictionary.specs.Steps.{forgotten, skipped}
+use Rattle.dictionary.proofs.Steps.{forward}
 use Rattle.dictionary.specs.Runs.{afterAtom, runFrom, tallyFrom, added, unlimited}
 
 -- what the forgotten value leaves of an atom's read
@@ -103,14 +104,16 @@ module _ {X Y : Type 0} (walk : ℕ → List ℕ → ℕ → X → Y) (s : List 
       record { within = omega arith; few = omega arith; same = rw z refl }
 
   module _ (all : Y) (atoms at : ℕ) (x : X) (w : Walked walk s all atoms at x) where
-    -- a turn goes on, further in the file
-    pub walk-on : (next : ℕ) (y : X) → at < next → next ≤ length s →
-        ((fuel left : ℕ) → fuel ≡ suc left → walk fuel s at x ≡ walk left s next y) →
-        Walked walk s all (atoms + 1) next y
-    walk-on next y h k turn =
+    -- a turn goes on, past an atom
+    pub walk-on : (budget : Budget) (place : Place) (rest : Budget) (body : Place) (t : Bool) →
+        skipped s at budget ≡ SK.Past place rest body t → (y : X) →
+        ((fuel left : ℕ) → fuel ≡ suc left → walk fuel s at x ≡ walk left s (place .0) y) →
+        Walked walk s all (atoms + 1) (place .0) y
+    walk-on budget place rest body t e y turn =
         let f = w .few in
+        let g = forward s at (w .within) budget place rest body t e in
         record {
-          within = k;
+          within = g .inside;
           few = omega arith;
           same = sym (turn (suc (length s) - atoms) (suc (length s) - (atoms + 1)) (omega arith)) ∙ w .same;
         }
