@@ -1,15 +1,13 @@
--- What a body does in a step, at each of its ends; and that it is what `read_atom` does there, with the value forgotten.
+-- What a body does in a step, at each of its ends; and that it is what `read_atom` does there, with the value
+-- forgotten.
 use mathlib.Core.Path.{_≡_, refl, _∙_, sym, ap}
 use mathlib.Core.Bool.{Bool, true, false, false≢true}
-use mathlib.Core.List.{List, [], _∷_}
+use mathlib.Core.List.{List, []}
 use Prim.Native.Nat.{ℕ, zero, suc, _+_, _-_, _≤_, _<_}
 use native.Mathlib.Omega.{arith}
 use lib.Dec.{ltb, leb}
 use lib.ListN.{length}
 use borrow.Author.Tests.{lt-ltb, le-ltb, le-leb, lt-leb, ltb-true, ltb-false, leb-true, leb-false}
-use types.Run.{OneOf, miss}
-use denote.Enum.Declared.{tagOf}
-use Rattle.types.proofs.Kind.{the-type}
 use Rattle.types.proofs.Specials.{special-unknown}
 use Rattle.types.specs.declared.Way.the-variants as W
 use Rattle.types.specs.declared.Kind.{Kind}
@@ -26,45 +24,59 @@ use Rattle.integer.specs.Integers.{integerKind, allowedCount, integerFrom, inte
 use Rattle.float.specs.Floats.{allowedFloat, floatFrom, floatBody}
 use Rattle.atom.specs.Charges.{countOf, numberCharge}
 use Rattle.atom.specs.Atoms.{specialAtom, integerAfter, floatAfter, bytesAfter, atomAfter}
-use Rattle.dictionary.specs.Wholes.{isString}
+use Rattle.dictionary.specs.Wholes.{known, bodyLength, chargeOf, isString}
 use Rattle.dictionary.specs.Steps.{forgotten, bodyPast, bodyAfter}
 
 -- the four ends of a body
 module _ (size at left : ℕ) (string : Bool) (len charge : ℕ) (why : Refusal) where
-  pub past-over : (allowed : Bool) → left < charge → bodyPast size at left string len charge allowed why ≡ SK.Refused (record { 0 = at }) (record { 0 = left }) R.TooManyBytesRead
+  pub past-over : (allowed : Bool) → left < charge →
+      bodyPast size at left string len charge allowed why
+      ≡ SK.Refused (record { 0 = at }) (record { 0 = left }) R.TooManyBytesRead
   unfolding bodyPast
   past-over allowed h = simp (lt-ltb left charge h)
 
-  pub past-unknown : charge ≤ left → bodyPast size at left string len charge false why ≡ SK.Refused (record { 0 = at }) (record { 0 = left - charge }) why
+  pub past-unknown : charge ≤ left →
+      bodyPast size at left string len charge false why
+      ≡ SK.Refused (record { 0 = at }) (record { 0 = left - charge }) why
   unfolding bodyPast
   past-unknown h = simp (le-ltb left charge h)
 
-  pub past-eof : charge ≤ left → size < at + len → bodyPast size at left string len charge true why ≡ SK.Refused (record { 0 = size }) (record { 0 = left - charge }) R.Eof
+  pub past-eof : charge ≤ left → size < at + len →
+      bodyPast size at left string len charge true why
+      ≡ SK.Refused (record { 0 = size }) (record { 0 = left - charge }) R.Eof
   unfolding bodyPast
   past-eof h k = simp (le-ltb left charge h, lt-leb (at + len) size k)
 
-  pub past-whole : charge ≤ left → at + len ≤ size → bodyPast size at left string len charge true why ≡ SK.Past (record { 0 = at + len }) (record { 0 = left - charge }) (record { 0 = at }) string
+  pub past-whole : charge ≤ left → at + len ≤ size →
+      bodyPast size at left string len charge true why
+      ≡ SK.Past (record { 0 = at + len }) (record { 0 = left - charge }) (record { 0 = at }) string
   unfolding bodyPast
   past-whole h k = simp (le-ltb left charge h, le-leb (at + len) size k)
 
--- an atom of its header only
-pub past-header : (size at left : ℕ) (why : Refusal) → at ≤ size → SK.Past (record { 0 = at }) (record { 0 = left }) (record { 0 = at }) false ≡ bodyPast size at left false 0 0 true why
-past-header size at left why h =
-    let a : at + 0 ≡ at = omega arith in
-    let b : left - 0 ≡ left = omega arith in
-    sym (past-whole size at left false 0 0 why (omega arith) (omega arith) ∙ rw (a, b) refl)
+-- an atom of its header only: a sequence, a map, a symbol, a special that is known
+module _ (size : ℕ) (kind : Kind) (arg at left : ℕ) where
+  pub header-only : (k : Kind) → kind ≡ k → known k arg ≡ true → bodyLength k arg ≡ 0 → chargeOf k arg ≡ 0 →
+      isString k ≡ false → at ≤ size →
+      SK.Past (record { 0 = at }) (record { 0 = left }) (record { 0 = at }) false ≡ bodyAfter size kind arg at left
+  unfolding bodyPast
+  header-only k e known-is none free no-string within =
+      let a : at + 0 ≡ at = omega arith in
+      let b : left - 0 ≡ left = omega arith in
+      rw (e, known-is, none, free, no-string) (simp (le-ltb left 0 (omega arith), a, b, le-leb at size within))
 
-pub past-special : (size at left arg : ℕ) → at ≤ size → arg < 7 → SK.Past (record { 0 = at }) (record { 0 = left }) (record { 0 = at }) false ≡ bodyAfter size K.Special arg at left
-past-special size at left arg h k = rw (lt-ltb arg 7 k) (past-header size at left (R.UnknownSpecial arg) h)
-
-pub past-other : (size at left arg : ℕ) → 7 ≤ arg → SK.Refused (record { 0 = at }) (record { 0 = left }) (R.UnknownSpecial arg) ≡ bodyAfter size K.Special arg at left
-past-other size at left arg k =
-    let b : left - 0 ≡ left = omega arith in
-    rw (le-ltb arg 7 k) (sym (past-unknown size at left false 0 0 (R.UnknownSpecial arg) (omega arith) ∙ rw b refl))
+  -- a special that is not
+  pub special-other : kind ≡ K.Special → 7 ≤ arg →
+      SK.Refused (record { 0 = at }) (record { 0 = left }) (R.UnknownSpecial arg) ≡ bodyAfter size kind arg at left
+  unfolding bodyPast
+  special-other e h =
+      let b : left - 0 ≡ left = omega arith in
+      rw (e, le-ltb arg 7 h) (simp (le-ltb left 0 (omega arith), b))
 
 module _ (s : List ℕ) (arg : ℕ) (next : Place) (budget : Budget) where
   -- a special
-  special-known : (n : ℕ) → n < 7 → forgotten (H.Read next K.Special n) (atomAfter W.ExactLent s K.Special n next budget []) ≡ SK.Past next budget next false
+  special-known : (n : ℕ) → n < 7 →
+      forgotten (H.Read next K.Special n) (atomAfter W.ExactLent s K.Special n next budget [])
+      ≡ SK.Past next budget next false
   special-known zero h = refl
   special-known (suc zero) h = refl
   special-known (suc (suc zero)) h = refl
@@ -77,22 +89,40 @@ module _ (s : List ℕ) (arg : ℕ) (next : Place) (budget : Budget) where
       none : (n : ℕ) → suc (suc (suc (suc (suc (suc (suc n)))))) < 7 → ⊥
       none n h = omega arith
 
-  special-other : 7 ≤ arg → forgotten (H.Read next K.Special arg) (atomAfter W.ExactLent s K.Special arg next budget []) ≡ SK.Refused next budget (R.UnknownSpecial arg)
-  special-other k = ap (λ (a : SpecialAnswer). forgotten (H.Read next K.Special arg) (specialAtom arg next budget a)) (special-unknown arg k)
+  special-refused : 7 ≤ arg →
+      forgotten (H.Read next K.Special arg) (atomAfter W.ExactLent s K.Special arg next budget [])
+      ≡ SK.Refused next budget (R.UnknownSpecial arg)
+  special-refused k =
+      ap (λ (a : SpecialAnswer). forgotten (H.Read next K.Special arg) (specialAtom arg next budget a))
+      (special-unknown arg k)
 
-  special-after : next .0 ≤ length s → (t : Bool) → ltb arg 7 ≡ t → forgotten (H.Read next K.Special arg) (atomAfter W.ExactLent s K.Special arg next budget []) ≡ bodyAfter (length s) K.Special arg (next .0) (budget .0)
-  special-after h true e = special-known arg (ltb-true arg 7 e) ∙ past-special (length s) (next .0) (budget .0) arg h (ltb-true arg 7 e)
-  special-after h false e = special-other (ltb-false arg 7 e) ∙ past-other (length s) (next .0) (budget .0) arg (ltb-false arg 7 e)
+  special-after : next .0 ≤ length s → (t : Bool) → ltb arg 7 ≡ t →
+      forgotten (H.Read next K.Special arg) (atomAfter W.ExactLent s K.Special arg next budget [])
+      ≡ bodyAfter (length s) K.Special arg (next .0) (budget .0)
+  special-after h true e =
+      special-known arg (ltb-true arg 7 e)
+      ∙ header-only (length s) K.Special arg (next .0) (budget .0) K.Special refl e refl refl refl h
+  special-after h false e =
+      special-refused (ltb-false arg 7 e)
+      ∙ special-other (length s) K.Special arg (next .0) (budget .0) refl (ltb-false arg 7 e)
 
   -- a number, by the tests that it passes
-  integer-after : (kind : Kind) → integerKind kind ≡ true → (t u v : Bool) → ltb (budget .0) (numberCharge (countOf arg)) ≡ t → allowedCount (countOf arg) ≡ u → leb (next .0 + countOf arg) (length s) ≡ v → forgotten (H.Read next kind arg) (integerAfter W.ExactLent s kind arg next budget) ≡ bodyPast (length s) (next .0) (budget .0) (isString kind) (countOf arg) (numberCharge (countOf arg)) (allowedCount (countOf arg)) (R.UnsupportedByteCount kind (countOf arg))
+  integer-after : (kind : Kind) → integerKind kind ≡ true → (t u v : Bool) →
+      ltb (budget .0) (numberCharge (countOf arg)) ≡ t → allowedCount (countOf arg) ≡ u →
+      leb (next .0 + countOf arg) (length s) ≡ v →
+      forgotten (H.Read next kind arg) (integerAfter W.ExactLent s kind arg next budget)
+      ≡ bodyPast (length s) (next .0) (budget .0) (isString kind) (countOf arg) (numberCharge (countOf arg))
+      (allowedCount (countOf arg)) (R.UnsupportedByteCount kind (countOf arg))
   unfolding integerAfter integerFrom integerBody bodyPast
   integer-after kind k true u v a b c = simp a
   integer-after kind k false false v a b c = simp (a, k, b)
   integer-after kind k false true true a b c = simp (a, k, b, c)
   integer-after kind k false true false a b c = simp (a, k, b, c)
 
-  float-after : (t u v : Bool) → ltb (budget .0) (numberCharge (countOf arg)) ≡ t → allowedFloat (countOf arg) ≡ u → leb (next .0 + countOf arg) (length s) ≡ v → forgotten (H.Read next K.Float arg) (floatAfter W.ExactLent s arg next budget) ≡ bodyAfter (length s) K.Float arg (next .0) (budget .0)
+  float-after : (t u v : Bool) → ltb (budget .0) (numberCharge (countOf arg)) ≡ t → allowedFloat (countOf arg) ≡ u →
+      leb (next .0 + countOf arg) (length s) ≡ v →
+      forgotten (H.Read next K.Float arg) (floatAfter W.ExactLent s arg next budget)
+      ≡ bodyAfter (length s) K.Float arg (next .0) (budget .0)
   unfolding floatAfter floatFrom floatBody bodyPast
   float-after true u v a b c = simp a
   float-after false false v a b c = simp (a, b)
@@ -100,40 +130,34 @@ module _ (s : List ℕ) (arg : ℕ) (next : Place) (budget : Budget) where
   float-after false true false a b c = simp (a, b, c)
 
   -- a string
-  string-after : next .0 ≤ length s → (t v : Bool) → ltb (budget .0) arg ≡ t → leb (next .0 + arg) (length s) ≡ v → forgotten (H.Read next K.Bytes arg) (bytesAfter W.ExactLent s arg next budget []) ≡ bodyAfter (length s) K.Bytes arg (next .0) (budget .0)
+  string-after : next .0 ≤ length s → (t v : Bool) → ltb (budget .0) arg ≡ t → leb (next .0 + arg) (length s) ≡ v →
+      forgotten (H.Read next K.Bytes arg) (bytesAfter W.ExactLent s arg next budget [])
+      ≡ bodyAfter (length s) K.Bytes arg (next .0) (budget .0)
   unfolding bytesAfter lentString bodyPast
   string-after h true v a c = simp a
-  string-after h false true a c = simp (a, c, le-ltb (length s) (next .0) h, le-ltb (length s) (next .0 + arg) (leb-true (next .0 + arg) (length s) c))
-  string-after h false false a c = simp (a, c, le-ltb (length s) (next .0) h, lt-ltb (length s) (next .0 + arg) (leb-false (next .0 + arg) (length s) c))
+  string-after h false true a c =
+      simp
+      (a, c, le-ltb (length s) (next .0) h, le-ltb (length s) (next .0 + arg) (leb-true (next .0 + arg) (length s) c))
+  string-after h false false a c =
+      simp
+      (a, c, le-ltb (length s) (next .0) h, lt-ltb (length s) (next .0 + arg) (leb-false (next .0 + arg) (length s) c))
 
   -- EVERY KIND: what `read_atom` does after a header, with the value forgotten
-  pub after-header : (kind : Kind) → next .0 ≤ length s → forgotten (H.Read next kind arg) (atomAfter W.ExactLent s kind arg next budget []) ≡ bodyAfter (length s) kind arg (next .0) (budget .0)
-  after-header K.Special h = special-after h (ltb arg 7) refl
-  after-header K.Int h = integer-after K.Int refl (ltb (budget .0) (numberCharge (countOf arg))) (allowedCount (countOf arg)) (leb (next .0 + countOf arg) (length s)) refl refl refl
-  after-header K.UInt h = integer-after K.UInt refl (ltb (budget .0) (numberCharge (countOf arg))) (allowedCount (countOf arg)) (leb (next .0 + countOf arg) (length s)) refl refl refl
-  after-header K.Float h = float-after (ltb (budget .0) (numberCharge (countOf arg))) (allowedFloat (countOf arg)) (leb (next .0 + countOf arg) (length s)) refl refl refl
-  after-header K.Sequence h = past-header (length s) (next .0) (budget .0) R.Eof h
-  after-header K.Map h = past-header (length s) (next .0) (budget .0) R.Eof h
-  after-header K.Symbol h = past-header (length s) (next .0) (budget .0) R.Eof h
-  after-header K.Bytes h = string-after h (ltb (budget .0) arg) (leb (next .0 + arg) (length s)) refl refl
-
--- what holds of Int and UInt alike, by the tag that led there
-pub integral : (size at left count : ℕ) (allowed : Bool) (k : Kind) (arg : ℕ) → OneOf (1 ∷ 2 ∷ []) (tagOf the-type k) → count ≡ countOf arg → allowed ≡ allowedCount count → bodyPast size at left false count (numberCharge count) allowed (R.UnsupportedByteCount k count) ≡ bodyAfter size k arg at left
-integral size at left count allowed K.Special arg h e a = absurd (miss (1 ∷ 2 ∷ []) 0 tt h)
-integral size at left count allowed K.Int arg h e a = rw (a, e) refl
-integral size at left count allowed K.UInt arg h e a = rw (a, e) refl
-integral size at left count allowed K.Float arg h e a = absurd (miss (1 ∷ 2 ∷ []) 3 tt h)
-integral size at left count allowed K.Sequence arg h e a = absurd (miss (1 ∷ 2 ∷ []) 4 tt h)
-integral size at left count allowed K.Map arg h e a = absurd (miss (1 ∷ 2 ∷ []) 5 tt h)
-integral size at left count allowed K.Symbol arg h e a = absurd (miss (1 ∷ 2 ∷ []) 6 tt h)
-integral size at left count allowed K.Bytes arg h e a = absurd (miss (1 ∷ 2 ∷ []) 7 tt h)
-
--- and of Float
-pub floating : (size at left count : ℕ) (allowed : Bool) (k : Kind) (arg : ℕ) → k ≡ K.Float → count ≡ countOf arg → allowed ≡ allowedFloat count → bodyPast size at left false count (numberCharge count) allowed (R.UnsupportedByteCount k count) ≡ bodyAfter size k arg at left
-floating size at left count allowed k arg h e a = rw (a, e, h) refl
+  pub after-header : (kind : Kind) → next .0 ≤ length s →
+      forgotten (H.Read next kind arg) (atomAfter W.ExactLent s kind arg next budget [])
+      ≡ bodyAfter (length s) kind arg (next .0) (budget .0)
+  after-header K.Special h = special-after h _ refl
+  after-header K.Int h = integer-after K.Int refl _ _ _ refl refl refl
+  after-header K.UInt h = integer-after K.UInt refl _ _ _ refl refl refl
+  after-header K.Float h = float-after _ _ _ refl refl refl
+  after-header K.Sequence h = header-only (length s) K.Sequence arg (next .0) _ K.Sequence refl refl refl refl refl h
+  after-header K.Map h = header-only (length s) K.Map arg (next .0) _ K.Map refl refl refl refl refl h
+  after-header K.Symbol h = header-only (length s) K.Symbol arg (next .0) _ K.Symbol refl refl refl refl refl h
+  after-header K.Bytes h = string-after h _ _ refl refl
 
 -- a body that was passed: its charge was within the budget, it is known and whole
-pub record Passed (size at left : ℕ) (string : Bool) (len charge : ℕ) (allowed : Bool) (place rest body : ℕ) (t : Bool) : Type 0 where
+pub record Passed (size at left : ℕ) (string : Bool) (len charge : ℕ) (allowed : Bool) (place rest body : ℕ) (t : Bool)
+    : Type 0 where
   pub afforded : charge ≤ left
   pub is-known : allowed ≡ true
   pub is-whole : at + len ≤ size
@@ -142,11 +166,22 @@ pub record Passed (size at left : ℕ) (string : Bool) (len charge : ℕ) (allow
   pub starts : body ≡ at
   pub told : t ≡ string
 
-module _ (size at left : ℕ) (string : Bool) (len charge : ℕ) (why : Refusal) (place : Place) (rest : Budget) (body : Place) (t : Bool) where
-  passed-at : (allowed u v : Bool) → ltb left charge ≡ u → leb (at + len) size ≡ v → bodyPast size at left string len charge allowed why ≡ SK.Past place rest body t → Passed size at left string len charge allowed (place .0) (rest .0) (body .0) t
-  passed-at allowed true v a b e = absurd (false≢true (let x = sym e ∙ past-over size at left string len charge why allowed (ltb-true left charge a) in cc))
-  passed-at false false v a b e = absurd (false≢true (let x = sym e ∙ past-unknown size at left string len charge why (ltb-false left charge a) in cc))
-  passed-at true false false a b e = absurd (false≢true (let x = sym e ∙ past-eof size at left string len charge why (ltb-false left charge a) (leb-false (at + len) size b) in cc))
+module _ (size at left : ℕ) (string : Bool) (len charge : ℕ) (why : Refusal) (place : Place) (rest : Budget)
+    (body : Place) (t : Bool) where
+  passed-at : (allowed u v : Bool) → ltb left charge ≡ u → leb (at + len) size ≡ v →
+      bodyPast size at left string len charge allowed why ≡ SK.Past place rest body t →
+      Passed size at left string len charge allowed (place .0) (rest .0) (body .0) t
+  passed-at allowed true v a b e =
+      let x = sym e ∙ past-over size at left string len charge why allowed (ltb-true left charge a) in
+      absurd (false≢true cc)
+  passed-at false false v a b e =
+      let x = sym e ∙ past-unknown size at left string len charge why (ltb-false left charge a) in
+      absurd (false≢true cc)
+  passed-at true false false a b e =
+      let x =
+      sym e ∙ past-eof size at left string len charge why (ltb-false left charge a) (leb-false (at + len) size b)
+      in
+      absurd (false≢true cc)
   passed-at true false true a b e =
       let h = ltb-false left charge a in
       let k = leb-true (at + len) size b in
@@ -164,5 +199,6 @@ module _ (size at left : ℕ) (string : Bool) (len charge : ℕ) (why : Refusal)
         told = cc;
       }
 
-  pub passed : (allowed : Bool) → bodyPast size at left string len charge allowed why ≡ SK.Past place rest body t → Passed size at left string len charge allowed (place .0) (rest .0) (body .0) t
-  passed allowed e = passed-at allowed (ltb left charge) (leb (at + len) size) refl refl e
+  pub passed : (allowed : Bool) → bodyPast size at left string len charge allowed why ≡ SK.Past place rest body t →
+      Passed size at left string len charge allowed (place .0) (rest .0) (body .0) t
+  passed allowed e = passed-at allowed _ _ refl refl e

@@ -1,4 +1,5 @@
 pub mod Bodies
+pub mod Ends
 pub mod Steps
 pub mod Shorts
 pub mod Letters

@@ -1,5 +1,5 @@
--- The step over a source: where the header is cut, and what follows it; it goes forward and stays within the source, the budget
--- never rises, and what an atom costs is at most 4/3 of its body.
+-- The step over a source: where the header is cut, and what follows it; it goes forward and stays within the source,
+-- the budget never rises, and what an atom costs is at most 4/3 of its body.
 use mathlib.Core.Path.{_≡_, refl, _∙_, sym, ap}
 use mathlib.Core.Bool.{Bool, true, false, false≢true}
 use mathlib.Core.List.{List, []}
@@ -17,32 +17,40 @@ use Rattle.types.specs.declared.Budget.{Budget}
 use Rattle.types.specs.declared.Refusal.the-variants as R
 use Rattle.types.specs.declared.HeaderAnswer.{HeaderAnswer}
 use Rattle.types.specs.declared.HeaderAnswer.the-variants as H
+use Rattle.types.specs.declared.Skipped.{Skipped}
 use Rattle.types.specs.declared.Skipped.the-variants as SK
 use Rattle.header.specs.Header.{headerFrom, headerRead, headerKind, headerArgument, headerLength}
 use Rattle.header.proofs.Fewest.{length-bounds}
 use Rattle.atom.specs.Charges.{countOf, numberCharge}
 use Rattle.atom.specs.Atoms.{atomRead, atomFrom}
-use Rattle.dictionary.specs.Wholes.{known, bodyLength, chargeOf, isString, unknown}
+use Rattle.dictionary.specs.Wholes.{bodyLength, chargeOf}
 use Rattle.dictionary.specs.Steps.{forgotten, skipped, bodyAfter}
 use Rattle.dictionary.specs.Runs.{unlimited}
 use Rattle.dictionary.proofs.Bodies.{after-header, Passed, passed}
 
 module _ (s : List ℕ) (at : ℕ) (within : at ≤ length s) (budget : Budget) where
   -- the header is cut: "4 Eof: end of slice", and the budget stays
-  pub step-cut : length s < at + headerLength (drop at s) → skipped s at budget ≡ SK.Refused (record { 0 = length s }) budget R.Eof
+  pub step-cut : length s < at + headerLength (drop at s) →
+      skipped s at budget ≡ SK.Refused (record { 0 = length s }) budget R.Eof
   unfolding skipped atomRead headerFrom
   step-cut k = simp (le-ltb (length s) at within, lt-leb (at + headerLength (drop at s)) (length s) k)
 
-  header-whole : at + headerLength (drop at s) ≤ length s → headerRead W.ExactLent s at ≡ H.Read (record { 0 = at + headerLength (drop at s) }) (headerKind (drop at s)) (headerArgument (drop at s))
+  header-whole : at + headerLength (drop at s) ≤ length s →
+      headerRead W.ExactLent s at
+      ≡ H.Read (record { 0 = at + headerLength (drop at s) }) (headerKind (drop at s)) (headerArgument (drop at s))
   unfolding headerFrom
   header-whole k = simp (le-ltb (length s) at within, le-leb (at + headerLength (drop at s)) (length s) k)
 
   -- the header is whole: the body follows
-  pub step-body : at + headerLength (drop at s) ≤ length s → skipped s at budget ≡ bodyAfter (length s) (headerKind (drop at s)) (headerArgument (drop at s)) (at + headerLength (drop at s)) (budget .0)
+  pub step-body : at + headerLength (drop at s) ≤ length s →
+      skipped s at budget
+      ≡ bodyAfter (length s) (headerKind (drop at s)) (headerArgument (drop at s)) (at + headerLength (drop at s))
+      (budget .0)
   unfolding skipped atomRead
   step-body k =
       ap (λ (h : HeaderAnswer). forgotten h (atomFrom W.ExactLent s budget [] h)) (header-whole k)
-      ∙ after-header s (headerArgument (drop at s)) (record { 0 = at + headerLength (drop at s) }) budget (headerKind (drop at s)) k
+      ∙ after-header s (headerArgument (drop at s)) (record { 0 = at + headerLength (drop at s) }) budget
+      (headerKind (drop at s)) k
 
 -- what an atom costs is at most 4/3 of its body bytes
 number-price : (count : ℕ) (t u : Bool) → eqb count 3 ≡ t → eqb count 6 ≡ u → 3 * pick t 4 (pick u 8 count) ≤ 4 * count
@@ -93,7 +101,9 @@ pub record Forward (s : List ℕ) (at left place rest body : ℕ) : Type 0 where
   pub falls : rest ≤ left
   pub costs : 3 * (left - rest) ≤ 4 * (place - body)
 
-forward-body : (s : List ℕ) (at len charge left place rest body b : ℕ) (string t allowed : Bool) → at < b → 3 * charge ≤ 4 * len → Passed (length s) b left string len charge allowed place rest body t → Forward s at left place rest body
+forward-body : (s : List ℕ) (at len charge left place rest body b : ℕ) (string t allowed : Bool) → at < b →
+    3 * charge ≤ 4 * len → Passed (length s) b left string len charge allowed place rest body t →
+    Forward s at left place rest body
 forward-body s at len charge left place rest body b string t allowed h k p =
     let e = p .ends in
     let f = p .leaves in
@@ -102,8 +112,10 @@ forward-body s at len charge left place rest body b string t allowed h k p =
     let j = p .afforded in
     record { takes = omega arith; after = omega arith; inside = omega arith; falls = omega arith; costs = omega arith }
 
-module _ (s : List ℕ) (at : ℕ) (within : at ≤ length s) (budget : Budget) (place : Place) (rest : Budget) (body : Place) (t : Bool) where
-  forward-at : (v : Bool) → leb (at + headerLength (drop at s)) (length s) ≡ v → skipped s at budget ≡ SK.Past place rest body t → Forward s at (budget .0) (place .0) (rest .0) (body .0)
+module _ (s : List ℕ) (at : ℕ) (within : at ≤ length s) (budget : Budget) (place : Place) (rest : Budget) (body : Place)
+    (t : Bool) where
+  forward-at : (v : Bool) → leb (at + headerLength (drop at s)) (length s) ≡ v →
+      skipped s at budget ≡ SK.Past place rest body t → Forward s at (budget .0) (place .0) (rest .0) (body .0)
   forward-at false h e =
       let x = sym e ∙ step-cut s at within budget (leb-false (at + headerLength (drop at s)) (length s) h) in
       absurd (false≢true cc)
@@ -112,8 +124,28 @@ module _ (s : List ℕ) (at : ℕ) (within : at ≤ length s) (budget : Budget) 
       let k = leb-true (at + headerLength l) (length s) h in
       let x = sym (step-body s at within budget k) ∙ e in
       let one = length-bounds l .0 in
-      forward-body s at (bodyLength (headerKind l) (headerArgument l)) (chargeOf (headerKind l) (headerArgument l)) (budget .0) (place .0) (rest .0) (body .0) (at + headerLength l) (isString (headerKind l)) t (known (headerKind l) (headerArgument l)) (omega arith) (price-bound (headerKind l) (headerArgument l))
-      (passed (length s) (at + headerLength l) (budget .0) (isString (headerKind l)) (bodyLength (headerKind l) (headerArgument l)) (chargeOf (headerKind l) (headerArgument l)) (unknown (headerKind l) (headerArgument l)) place rest body t (known (headerKind l) (headerArgument l)) x)
+      forward-body s at _ _ (budget .0) _ _ _ (at + headerLength l) _ t _ (omega arith)
+      (price-bound (headerKind l) (headerArgument l)) (passed _ _ _ _ _ _ _ place rest body t _ x)
 
-  pub forward : skipped s at budget ≡ SK.Past place rest body t → Forward s at (budget .0) (place .0) (rest .0) (body .0)
+  pub forward : skipped s at budget ≡ SK.Past place rest body t →
+      Forward s at (budget .0) (place .0) (rest .0) (body .0)
   forward e = forward-at (leb (at + headerLength (drop at s)) (length s)) refl e
+
+-- what the loops have of a step that passed an atom: the body starts before its end, within the source, the budget
+-- never rises, and fewer bytes are left
+module _ (s : List ℕ) (at left : ℕ) (r : Skipped) (place : Place) (rest : Budget) (body : Place) (t : Bool)
+    (q : r ≡ skipped s at (record { 0 = left })) (p : r ≡ SK.Past place rest body t) (h : at < length s) where
+  pub went : Forward s at left (place .0) (rest .0) (body .0)
+  went = forward s at (omega arith) (record { 0 = left }) place rest body t (sym q ∙ p)
+
+  pub step-starts : body .0 ≤ place .0
+  step-starts = went .after
+
+  pub step-inside : place .0 ≤ length s
+  step-inside = went .inside
+
+  pub step-falls : rest .0 ≤ left
+  step-falls = went .falls
+
+  pub step-less : length s - place .0 < length s - at
+  step-less = let w = went in omega arith

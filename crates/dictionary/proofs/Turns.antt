@@ -1,9 +1,10 @@
--- The turns of the run and of the tally, by what the step answers. The run is defined over `read_atom`: the step's answer says
--- what that was.
-use mathlib.Core.Path.{_≡_, refl}
+-- The turns of the run and of the tally, by what the step answers; and what holds before each turn of such a walk. The
+-- run is defined over `read_atom`: the step's answer says what that was.
+use mathlib.Core.Path.{_≡_, refl, _∙_, sym}
 use mathlib.Core.Bool.{Bool, false≢true}
 use mathlib.Core.List.{List, []}
-use Prim.Native.Nat.{ℕ, suc, _+_, _≤_, _<_}
+use Prim.Native.Nat.{ℕ, suc, _+_, _-_, _≤_, _<_}
+use native.Mathlib.Omega.{arith}
 use lib.ListN.{length}
 use borrow.Author.Tests.{lt-ltb, le-ltb}
 use Rattle.types.specs.declared.Way.the-variants as W
@@ -21,41 +22,50 @@ use Rattle.types.specs.declared.TallyAnswer.the-variants as TA
 use Rattle.header.specs.Header.{headerRead}
 use Rattle.atom.specs.Atoms.{atomRead}
 use Rattle.dictionary.specs.Steps.{forgotten, skipped}
+use Rattle.dictionary.proofs.Steps.{forward}
 use Rattle.dictionary.specs.Runs.{afterAtom, runFrom, tallyFrom, added, unlimited}
 
 -- what the forgotten value leaves of an atom's read
-module _ {X : Type 0} (on : Place → Budget → X) (stop : Place → Budget → Refusal → X) (place : Place) (rest : Budget) where
-  read-past : (h : HeaderAnswer) (a : AtomAnswer) (body : Place) (t : Bool) → forgotten h a ≡ SK.Past place rest body t → afterAtom a on stop ≡ on place rest
-  read-past (H.Read n k x) (A.Read p b y) body t e = cc
-  read-past (H.Read n k x) (A.Refused p b r) body t e = absurd (false≢true cc)
-  read-past (H.Refused n q) (A.Read p b y) body t e = cc
-  read-past (H.Refused n q) (A.Refused p b r) body t e = absurd (false≢true cc)
+module _ {X : Type 0} (on : Place → Budget → X) (stop : Place → Budget → Refusal → X) (place : Place) (rest : Budget)
+  where
+    read-past : (h : HeaderAnswer) (a : AtomAnswer) (body : Place) (t : Bool) →
+        forgotten h a ≡ SK.Past place rest body t → afterAtom a on stop ≡ on place rest
+    read-past (H.Read n k x) (A.Read p b y) body t e = cc
+    read-past (H.Read n k x) (A.Refused p b r) body t e = absurd (false≢true cc)
+    read-past (H.Refused n q) (A.Read p b y) body t e = cc
+    read-past (H.Refused n q) (A.Refused p b r) body t e = absurd (false≢true cc)
 
-  read-refused : (h : HeaderAnswer) (a : AtomAnswer) (why : Refusal) → forgotten h a ≡ SK.Refused place rest why → afterAtom a on stop ≡ stop place rest why
-  read-refused (H.Read n k x) (A.Read p b y) why e = absurd (false≢true cc)
-  read-refused (H.Read n k x) (A.Refused p b r) why e = cc
-  read-refused (H.Refused n q) (A.Read p b y) why e = absurd (false≢true cc)
-  read-refused (H.Refused n q) (A.Refused p b r) why e = cc
+    read-refused : (h : HeaderAnswer) (a : AtomAnswer) (why : Refusal) → forgotten h a ≡ SK.Refused place rest why →
+        afterAtom a on stop ≡ stop place rest why
+    read-refused (H.Read n k x) (A.Read p b y) why e = absurd (false≢true cc)
+    read-refused (H.Read n k x) (A.Refused p b r) why e = cc
+    read-refused (H.Refused n q) (A.Read p b y) why e = absurd (false≢true cc)
+    read-refused (H.Refused n q) (A.Refused p b r) why e = cc
 
-  pub atom-past : (s : List ℕ) (at : ℕ) (budget : Budget) (body : Place) (t : Bool) → skipped s at budget ≡ SK.Past place rest body t → afterAtom (atomRead W.ExactLent s at budget []) on stop ≡ on place rest
-  unfolding skipped
-  atom-past s at budget body t e = read-past (headerRead W.ExactLent s at) (atomRead W.ExactLent s at budget []) body t e
+    module _ (s : List ℕ) (at : ℕ) (budget : Budget) where
+      atom-past : (body : Place) (t : Bool) → skipped s at budget ≡ SK.Past place rest body t →
+          afterAtom (atomRead W.ExactLent s at budget []) on stop ≡ on place rest
+      unfolding skipped
+      atom-past body t e = read-past (headerRead W.ExactLent s at) (atomRead W.ExactLent s at budget []) body t e
 
-  pub atom-refused : (s : List ℕ) (at : ℕ) (budget : Budget) (why : Refusal) → skipped s at budget ≡ SK.Refused place rest why → afterAtom (atomRead W.ExactLent s at budget []) on stop ≡ stop place rest why
-  unfolding skipped
-  atom-refused s at budget why e = read-refused (headerRead W.ExactLent s at) (atomRead W.ExactLent s at budget []) why e
+      atom-refused : (why : Refusal) → skipped s at budget ≡ SK.Refused place rest why →
+          afterAtom (atomRead W.ExactLent s at budget []) on stop ≡ stop place rest why
+      unfolding skipped
+      atom-refused why e = read-refused (headerRead W.ExactLent s at) (atomRead W.ExactLent s at budget []) why e
 
 -- a turn of the run
 module _ (s : List ℕ) (fuel left at : ℕ) (budget : Budget) (atoms : ℕ) (enough : fuel ≡ suc left) where
-  pub run-on : (place : Place) (rest : Budget) (body : Place) (t : Bool) → at < length s → skipped s at budget ≡ SK.Past place rest body t → runFrom fuel s at budget atoms ≡ runFrom left s (place .0) rest (atoms + 1)
+  pub run-on : (place : Place) (rest : Budget) (body : Place) (t : Bool) → at < length s →
+      skipped s at budget ≡ SK.Past place rest body t →
+      runFrom fuel s at budget atoms ≡ runFrom left s (place .0) rest (atoms + 1)
   unfolding runFrom
-  run-on place rest body t h e =
-      rw (enough, lt-ltb at (length s) h) (atom-past (λ p b. runFrom left s (p .0) b (atoms + 1)) (λ p b r. RN.Stopped p b atoms r (record { 0 = at })) place rest s at budget body t e)
+  run-on place rest body t h e = rw (enough, lt-ltb at (length s) h) (atom-past _ _ place rest s at budget body t e)
 
-  pub run-stop : (place : Place) (rest : Budget) (why : Refusal) → at < length s → skipped s at budget ≡ SK.Refused place rest why → runFrom fuel s at budget atoms ≡ RN.Stopped place rest atoms why (record { 0 = at })
+  pub run-stop : (place : Place) (rest : Budget) (why : Refusal) → at < length s →
+      skipped s at budget ≡ SK.Refused place rest why →
+      runFrom fuel s at budget atoms ≡ RN.Stopped place rest atoms why (record { 0 = at })
   unfolding runFrom
-  run-stop place rest why h e =
-      rw (enough, lt-ltb at (length s) h) (atom-refused (λ p b. runFrom left s (p .0) b (atoms + 1)) (λ p b r. RN.Stopped p b atoms r (record { 0 = at })) place rest s at budget why e)
+  run-stop place rest why h e = rw (enough, lt-ltb at (length s) h) (atom-refused _ _ place rest s at budget why e)
 
   pub run-end : length s ≤ at → runFrom fuel s at budget atoms ≡ RN.Done (record { 0 = at }) budget atoms
   unfolding runFrom
@@ -63,14 +73,54 @@ module _ (s : List ℕ) (fuel left at : ℕ) (budget : Budget) (atoms : ℕ) (en
 
 -- a turn of the tally
 module _ (s : List ℕ) (fuel left at : ℕ) (t : Tallied) (enough : fuel ≡ suc left) where
-  pub tally-on : (place : Place) (rest : Budget) (body : Place) (string : Bool) → at < length s → skipped s at (record { 0 = unlimited }) ≡ SK.Past place rest body string → tallyFrom fuel s at t ≡ tallyFrom left s (place .0) (added s t (place .0) (rest .0) (body .0) string)
+  pub tally-on : (place : Place) (rest : Budget) (body : Place) (string : Bool) → at < length s →
+      skipped s at (record { 0 = unlimited }) ≡ SK.Past place rest body string →
+      tallyFrom fuel s at t ≡ tallyFrom left s (place .0) (added s t (place .0) (rest .0) (body .0) string)
   unfolding tallyFrom
   tally-on place rest body string h e = rw (enough, lt-ltb at (length s) h, e) refl
 
-  pub tally-stop : (place : Place) (rest : Budget) (why : Refusal) → at < length s → skipped s at (record { 0 = unlimited }) ≡ SK.Refused place rest why → tallyFrom fuel s at t ≡ TA.Stopped (record { 0 = at }) why
+  pub tally-stop : (place : Place) (rest : Budget) (why : Refusal) → at < length s →
+      skipped s at (record { 0 = unlimited }) ≡ SK.Refused place rest why →
+      tallyFrom fuel s at t ≡ TA.Stopped (record { 0 = at }) why
   unfolding tallyFrom
   tally-stop place rest why h e = rw (enough, lt-ltb at (length s) h, e) refl
 
   pub tally-end : length s ≤ at → tallyFrom fuel s at t ≡ TA.Done t
   unfolding tallyFrom
   tally-end h = rw (enough, le-ltb at (length s) h) refl
+
+-- BEFORE EACH TURN of a walk over a file's atoms: so many are passed, the place is there, and the rest of the walk,
+-- with what it holds by then, is the whole one's
+pub record Walked {X Y : Type 0} (walk : ℕ → List ℕ → ℕ → X → Y) (s : List ℕ) (all : Y) (atoms at : ℕ) (x : X) : Type 0
+  where
+    pub within : at ≤ length s
+    pub few : atoms ≤ at
+    pub same : walk (suc (length s) - atoms) s at x ≡ all
+
+module _ {X Y : Type 0} (walk : ℕ → List ℕ → ℕ → X → Y) (s : List ℕ) where
+  pub walk-begins : (x : X) → Walked walk s (walk (suc (length s)) s 0 x) 0 0 x
+  walk-begins x =
+      let z : suc (length s) - 0 ≡ suc (length s) = omega arith in
+      record { within = omega arith; few = omega arith; same = rw z refl }
+
+  module _ (all : Y) (atoms at : ℕ) (x : X) (w : Walked walk s all atoms at x) where
+    -- a turn goes on, past an atom
+    pub walk-on : (budget : Budget) (place : Place) (rest : Budget) (body : Place) (t : Bool) →
+        skipped s at budget ≡ SK.Past place rest body t → (y : X) →
+        ((fuel left : ℕ) → fuel ≡ suc left → walk fuel s at x ≡ walk left s (place .0) y) →
+        Walked walk s all (atoms + 1) (place .0) y
+    walk-on budget place rest body t e y turn =
+        let f = w .few in
+        let g = forward s at (w .within) budget place rest body t e in
+        record {
+          within = g .inside;
+          few = omega arith;
+          same = sym (turn (suc (length s) - atoms) (suc (length s) - (atoms + 1)) (omega arith)) ∙ w .same;
+        }
+
+    -- or it answers
+    pub walk-answers : (answer : Y) → ((fuel left : ℕ) → fuel ≡ suc left → walk fuel s at x ≡ answer) → answer ≡ all
+    walk-answers answer turn =
+        let f = w .few in
+        let i = w .within in
+        sym (turn (suc (length s) - atoms) (length s - atoms) (omega arith)) ∙ w .same

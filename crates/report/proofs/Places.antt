@@ -1,13 +1,12 @@
--- The places that a report rests on: a refused atom starts within the bytes that are tallied, and a file whose signature was
--- read has its four bytes.
+-- The places that a report rests on: a refused atom starts within the bytes that are tallied, and a file whose
+-- signature was read has its four bytes.
 use mathlib.Core.Path.{_≡_, refl, _∙_, sym}
 use mathlib.Core.Bool.{Bool, true, false, false≢true}
 use mathlib.Core.List.{List}
-use Prim.Native.Nat.{ℕ, zero, suc, _-_, _≤_, _<_}
+use Prim.Native.Nat.{ℕ, zero, suc, _≤_, _<_}
 use native.Mathlib.Omega.{arith}
 use lib.Dec.{ltb, leb}
-use lib.ListN.{length, take, drop, length-drop}
-use lib.Seq.{take-all}
+use lib.ListN.{length}
 use borrow.Author.Tests.{ltb-true, leb-true, leb-false, le-ltb, lt-leb}
 use Rattle.types.specs.Choice.{pick}
 use Rattle.types.specs.declared.Way.the-variants as W
@@ -30,7 +29,10 @@ abbrev pub stopAt : TallyAnswer → ℕ
 stopAt (TA.Done t) = 0
 stopAt (TA.Stopped start r) = start .0
 
-stop-step : (s : List ℕ) (at : ℕ) (on : Place → Budget → Place → Bool → TallyAnswer) (k : Skipped) (t : Bool) (d : Tallied) → ltb at (length s) ≡ t → ((p : Place) (b : Budget) (q : Place) (f : Bool) → stopAt (on p b q f) ≤ length s) → stopAt (pick t (afterStep k on (λ r. TA.Stopped (record { 0 = at }) r)) (TA.Done d)) ≤ length s
+stop-step :
+    (s : List ℕ) (at : ℕ) (on : Place → Budget → Place → Bool → TallyAnswer) (k : Skipped) (t : Bool) (d : Tallied) →
+    ltb at (length s) ≡ t → ((p : Place) (b : Budget) (q : Place) (f : Bool) → stopAt (on p b q f) ≤ length s) →
+    stopAt (pick t (afterStep k on (λ r. TA.Stopped (record { 0 = at }) r)) (TA.Done d)) ≤ length s
 stop-step s at on (SK.Past p b q f) true d e h = h p b q f
 stop-step s at on (SK.Refused p b r) true d e h = let l : at < length s = ltb-true at (length s) e in omega arith
 stop-step s at on (SK.Past p b q f) false d e h = omega arith
@@ -40,23 +42,21 @@ stop-from : (fuel : ℕ) (s : List ℕ) (at : ℕ) (t : Tallied) → stopAt (tal
 unfolding tallyFrom
 stop-from zero s at t = omega arith
 stop-from (suc fuel) s at t =
-    stop-step s at (λ place rest body string. tallyFrom fuel s (place .0) (added s t (place .0) (rest .0) (body .0) string))
+    stop-step s at
+    (λ place rest body string. tallyFrom fuel s (place .0) (added s t (place .0) (rest .0) (body .0) string))
     (skipped s at (record { 0 = unlimited }))
     (ltb at (length s))
     t
     refl
     (λ p b q f. stop-from fuel s (p .0) (added s t (p .0) (b .0) (q .0) f))
 
-stop-all : (s : List ℕ) (t : Bool) → stopAt (pick t (TA.Stopped (record { 0 = 0 }) R.TooLong) (tallyFrom (suc (length s)) s 0 nothing)) ≤ length s
+stop-all : (s : List ℕ) (t : Bool) →
+    stopAt (pick t (TA.Stopped (record { 0 = 0 }) R.TooLong) (tallyFrom (suc (length s)) s 0 nothing)) ≤ length s
 stop-all s true = omega arith
 stop-all s false = stop-from (suc (length s)) s 0 nothing
 
 pub stop-within : (s : List ℕ) → stopAt (tallyAll s) ≤ length s
 stop-within s = stop-all s (ltb mostBytes (length s))
-
--- the part after the signature, as it is lent
-pub rest-of : (xs : List ℕ) (a : ℕ) → take (length xs - a) (drop a xs) ≡ drop a xs
-rest-of xs a = take-all (length xs - a) (drop a xs) (simp length-drop (omega arith))
 
 -- whether a signature was read
 abbrev pub isRead : VersionAnswer → Bool

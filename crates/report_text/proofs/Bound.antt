@@ -1,5 +1,5 @@
--- HOW LONG THE TEXT IS: of every file at most 79 bytes, so that the program's buffer has its room. The numbers of a file that
--- was tallied are bounded by its bytes, which demand 3 shows of a list of atoms.
+-- HOW LONG THE TEXT IS: of every file at most 79 bytes, so that the program's buffer has its room. The numbers of a
+-- file that was tallied are bounded by its bytes, which demand 3 shows of a list of atoms.
 use mathlib.Core.Path.{_≡_, refl, _∙_, sym, ap, subst}
 use mathlib.Core.Bool.{Bool, true, false, false≢true}
 use mathlib.Core.List.{List, _++_}
@@ -7,7 +7,9 @@ use mathlib.Core.Logic.{⊎-elim}
 use Prim.Native.Nat.{ℕ, suc, _+_, _%_, _^_, _≤_, _<_}
 use native.Mathlib.Omega.{arith}
 use lib.Dec.{ltb, leb}
-use lib.ListN.{length, drop, length-append, length-drop}
+use lib.ListN.{length, take, drop, length-append, length-drop}
+use lib.Seq.{length-take-le}
+use borrow.Author.Needs.{needs}
 use borrow.Author.Tests.{ltb-false}
 use Rattle.types.specs.Choice.{pick}
 use Rattle.types.specs.Counters.{placeIn}
@@ -61,14 +63,17 @@ unfolding tallyText
 tally-most t s =
     both-most (line (ascii "atoms=") (t .atoms)) _ 12 38 (line-most (ascii "atoms=") (t .atoms) 4 (s .atoms))
     (both-most (line (ascii "body=") (t .body .0)) _ 11 27 (line-most (ascii "body=") (t .body .0) 4 (s .body))
-    (both-most (line (ascii "charge=") (t .charge)) (line (ascii "letters=") (t .letters)) 13 14 (line-most (ascii "charge=") (t .charge) 4 (s .charge)) (line-most (ascii "letters=") (t .letters) 4 (s .letters))))
+    (both-most (line (ascii "charge=") (t .charge)) (line (ascii "letters=") (t .letters)) 13 14
+    (line-most (ascii "charge=") (t .charge) 4 (s .charge)) (line-most (ascii "letters=") (t .letters) 4 (s .letters))))
 
-counted-most : (version bytes : ℕ) (t : Tallied) → version < 256 → bytes < 100_000 → Small t → length (countedText version bytes t) ≤ 79
+counted-most : (version bytes : ℕ) (t : Tallied) → version < 256 → bytes < 100_000 → Small t →
+    length (countedText version bytes t) ≤ 79
 unfolding countedText
 counted-most version bytes t v b s =
     both-most (line (ascii "ok=") 1) _ 5 74 (line-most (ascii "ok=") 1 0 (omega arith))
     (both-most (line (ascii "version=") version) _ 12 62 (line-most (ascii "version=") version 2 (omega arith))
-    (both-most (line (ascii "bytes=") bytes) (tallyText t) 12 50 (line-most (ascii "bytes=") bytes 4 b) (tally-most t s)))
+    (both-most (line (ascii "bytes=") bytes) (tallyText t) 12 50 (line-most (ascii "bytes=") bytes 4 b)
+    (tally-most t s)))
 
 number-most : (r : Refusal) → refusalNumber r < 100
 number-most R.IncompatibleVersion = omega arith
@@ -87,12 +92,14 @@ unfolding refusedText
 refused-most r at h =
     let three : length (refusedText r at) ≤ 5 + (11 + 9) =
     both-most (line (ascii "ok=") 0) _ 5 20 (line-most (ascii "ok=") 0 0 (omega arith))
-    (both-most (line (ascii "refusal=") (refusalNumber r)) (line (ascii "at=") at) 11 9 (line-most (ascii "refusal=") (refusalNumber r) 1 (number-most r)) (line-most (ascii "at=") at 4 h))
+    (both-most (line (ascii "refusal=") (refusalNumber r)) (line (ascii "at=") at) 11 9
+    (line-most (ascii "refusal=") (refusalNumber r) 1 (number-most r)) (line-most (ascii "at=") at 4 h))
     in
     omega (arith, three)
 
 -- a sum over atoms, each of which counts no more than its bytes
-total-most : (f : List ℕ → ℕ) → ((atom : List ℕ) → IsAtom atom → f atom ≤ length atom) → {l : List ℕ} {atoms : List (List ℕ)} → Atoms l atoms → total f atoms ≤ length l
+total-most : (f : List ℕ → ℕ) → ((atom : List ℕ) → IsAtom atom → f atom ≤ length atom) →
+    {l : List ℕ} {atoms : List (List ℕ)} → Atoms l atoms → total f atoms ≤ length l
 unfolding total
 total-most f each none = omega arith
 total-most f each (more {atom} {rest} {atoms} w r) =
@@ -125,13 +132,16 @@ made-small s m h =
 
 broken-within : (s : List ℕ) (b : Broken s) → length (b .front-bytes) ≤ length s
 broken-within s b =
-    let n : length s ≡ length (b .front-bytes) + length (b .rest) = ap length (b .joined) ∙ length-append (b .front-bytes) (b .rest) in
+    let n : length s ≡ length (b .front-bytes) + length (b .rest) =
+    ap length (b .joined) ∙ length-append (b .front-bytes) (b .rest)
+    in
     omega arith
 
 tallied : (s : List ℕ) → length s ≤ 65_532 → Within (length s) (tallyAll s)
 tallied s h =
     ⊎-elim
-    (λ (m : Made s). subst (Within (length s)) (sym (tally-priced s (m .atoms) (omega arith) (m .wholes))) (made-small s m h))
+    (λ (m : Made s). subst (Within (length s)) (sym (tally-priced s (m .atoms) (omega arith) (m .wholes)))
+    (made-small s m h))
     (λ (b : Broken s). subst (Within (length s)) (sym (tally-broken s b (omega arith))) (broken-within s b))
     (price.judged s)
 
@@ -140,11 +150,13 @@ abbrev versionOf : VersionAnswer → ℕ
 versionOf (VA.Read place version) = version
 versionOf (VA.Refused place r) = 0
 
-taken-small : (word : ℕ) (place : Place) (t : Bool) → versionOf (pick t (VA.Read place (word % 256)) (VA.Refused place R.IncompatibleVersion)) < 256
+taken-small : (word : ℕ) (place : Place) (t : Bool) →
+    versionOf (pick t (VA.Read place (word % 256)) (VA.Refused place R.IncompatibleVersion)) < 256
 taken-small word place true = omega arith
 taken-small word place false = omega arith
 
-whole-small : (word : ℕ) (place end : Place) (t : Bool) → versionOf (pick t (judged word place) (VA.Refused end R.Eof)) < 256
+whole-small : (word : ℕ) (place end : Place) (t : Bool) →
+    versionOf (pick t (judged word place) (VA.Refused end R.Eof)) < 256
 whole-small word place end true = taken-small word place (everyBit 32 signature word)
 whole-small word place end false = omega arith
 
@@ -155,44 +167,56 @@ version-small s =
     whole-small (bigEndian (drop at s)) (record { 0 = at + 4 }) (record { 0 = length s }) (leb (at + 4) (length s))
 
 -- the text of what is found
-answered-most : (file : List ℕ) (version : ℕ) (a : TallyAnswer) → length file ≤ 65_536 → version < 256 → Within (length (afterSignature file)) a → length (reportText (counted file version a)) ≤ 79
-answered-most file version (TA.Done t) h v w = counted-most version (length (afterSignature file)) t v (omega (arith, length-drop 4 file)) w
-answered-most file version (TA.Stopped start r) h v w = refused-most r (4 + start .0) (omega (arith, w, length-drop 4 file))
+answered-most : (file : List ℕ) (version : ℕ) (a : TallyAnswer) → length file ≤ 65_536 → version < 256 →
+    Within (length (afterSignature file)) a → length (reportText (counted file version a)) ≤ 79
+answered-most file version (TA.Done t) h v w =
+    counted-most version (length (afterSignature file)) t v (omega (arith, length-drop 4 file)) w
+answered-most file version (TA.Stopped start r) h v w =
+    refused-most r (4 + start .0) (omega (arith, w, length-drop 4 file))
 
-signed-most : (file : List ℕ) (a : VersionAnswer) → length file ≤ 65_536 → versionOf a < 256 → length (reportText (signed file a)) ≤ 79
-signed-most file (VA.Read place version) h v = answered-most file version (tallyAll (afterSignature file)) h v (tallied (afterSignature file) (omega (arith, length-drop 4 file)))
+signed-most : (file : List ℕ) (a : VersionAnswer) → length file ≤ 65_536 → versionOf a < 256 →
+    length (reportText (signed file a)) ≤ 79
+signed-most file (VA.Read place version) h v =
+    answered-most file version (tallyAll (afterSignature file)) h v
+    (tallied (afterSignature file) (omega (arith, length-drop 4 file)))
 signed-most file (VA.Refused place r) h v = refused-most r 0 (omega arith)
 
-judged-most : (file : List ℕ) (t : Bool) → ltb mostFileBytes (length file) ≡ t → length (reportText (pick t (RP.Refused R.TooLong (record { 0 = 0 })) (signed file (versionRead W.ExactLent file 0)))) ≤ 79
+judged-most : (file : List ℕ) (t : Bool) → ltb mostFileBytes (length file) ≡ t →
+    length
+    (reportText (pick t (RP.Refused R.TooLong (record { 0 = 0 })) (signed file (versionRead W.ExactLent file 0)))) ≤ 79
 judged-most file true e = refused-most R.TooLong 0 (omega arith)
-judged-most file false e = signed-most file (versionRead W.ExactLent file 0) (ltb-false mostFileBytes (length file) e) (version-small file)
+judged-most file false e =
+    signed-most file (versionRead W.ExactLent file 0) (ltb-false mostFileBytes (length file) e) (version-small file)
 
 -- THE TEXT OF EVERY FILE HAS AT MOST 79 BYTES; `tally_cases` runs a file whose text has so many
 pub text-most : (file : List ℕ) → length (reportText (reportOf file)) ≤ 79
 unfolding reportOf
 text-most file = judged-most file (ltb mostFileBytes (length file)) refl
 
--- so that a buffer of that length has its room
-pub text-room : (file old : List ℕ) → 79 ≤ length old → writtenAnswer (reportText (reportOf file)) old ≡ WR.Count (length (reportText (reportOf file)))
-text-room file old h = let m = text-most file in answer-room (reportText (reportOf file)) old (omega arith)
+-- so that in a buffer of that length it is never refused, and stands there whole
+module _ (file old : List ℕ) (answer : Written) (room : length old ≡ 79)
+    (e : answer ≡ writtenAnswer (reportText (reportOf file)) old) where
+  whole : answer ≡ WR.Count (length (reportText (reportOf file)))
+  whole = let m = text-most file in e ∙ answer-room (reportText (reportOf file)) old (omega arith)
 
--- what is answered where there is that room, and what stands in the buffer
-module _ (file old : List ℕ) (h : 79 ≤ length old) where
-  pub room-count : (n : ℕ) → writtenAnswer (reportText (reportOf file)) old ≡ WR.Count n → n ≡ length (reportText (reportOf file))
-  room-count n e = ap countOf (sym e ∙ text-room file old h)
-    where
-      countOf : Written → ℕ
-      countOf (WR.Count n) = n
-      countOf (WR.Refused r) = 0
+  module _ (n : ℕ) (d : answer ≡ WR.Count n) where
+    pub text-counted : n ≡ length (reportText (reportOf file))
+    text-counted = let w = whole in cc
 
-  pub room-taken : (r : Refusal) → writtenAnswer (reportText (reportOf file)) old ≡ WR.Refused r → ⊥
-  room-taken r e =
-      let no : WR.Count (length (reportText (reportOf file))) ≡ WR.Refused r = sym (text-room file old h) ∙ e in
-      false≢true cc
+    pub text-within : (new : List ℕ) → new ≡ writtenContent (reportText (reportOf file)) old → n ≤ length new
+    text-within new w =
+        let text : List ℕ = reportText (reportOf file) in
+        let m = text-most file in
+        let c = text-counted in
+        let l : length new ≡ length text + length (drop (length text) old) =
+        ap length (w ∙ content-room text old (omega arith)) ∙ length-append text (drop (length text) old)
+        in
+        omega arith
 
-  pub room-holds : (new : List ℕ) → new ≡ writtenContent (reportText (reportOf file)) old → length (reportText (reportOf file)) ≤ length new
-  room-holds new e =
-      let text : List ℕ = reportText (reportOf file) in
-      let m = text-most file in
-      let n : length new ≡ length text + length (drop (length text) old) = ap length (e ∙ content-room text old (omega arith)) ∙ length-append text (drop (length text) old) in
-      omega arith
+    pub text-front : (new : List ℕ) → new ≡ writtenContent (reportText (reportOf file)) old → n ≡ length (take n new)
+    text-front new w = sym (length-take-le n new (text-within new w))
+
+  pub never-refused : (why : Refusal) → answer ≡ WR.Refused why → ⊥
+  never-refused why d = let w = whole in false≢true cc
+
+pub ruleset room-ends = (text-counted, text-within, text-front, never-refused, needs)

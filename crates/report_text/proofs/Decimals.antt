@@ -1,5 +1,5 @@
--- What is meant by a number in decimal: its digits give the number back, each is a digit, the first is no zero but of 0 itself,
--- and there are as few as hold it. And the digits that `io::decimal` puts are these.
+-- What is meant by a number in decimal: its digits give the number back, each is a digit, the first is no zero but of 0
+-- itself, and there are as few as hold it. And the digits that `io::decimal` puts are these.
 use mathlib.Core.Path.{_≡_, refl, _∙_, sym, ap, subst}
 use mathlib.Core.Bool.{Bool, true, false, _&&_}
 use mathlib.Core.List.{List, [], _∷_, _++_}
@@ -7,7 +7,7 @@ use Prim.Native.Nat.{ℕ, zero, suc, _+_, _-_, _*_, _/_, _%_, _^_, _≤_, _<_}
 use native.Mathlib.Nat.{pow-suc, one-le-pow}
 use native.Mathlib.Omega.{arith}
 use lib.Dec.{ltb, leb}
-use lib.ListN.{length, take, length-append}
+use lib.ListN.{length, length-append}
 use borrow.Author.Tests.{lt-ltb, le-ltb, le-leb, ltb-true, ltb-false}
 use Rattle.io.specs.Digits.{glyph, digits, Fewest}
 use Rattle.report_text.specs.Texts.{digit, digitsFrom, decimal}
@@ -31,7 +31,8 @@ unfolding readFrom
 read-append n [] ys = refl
 read-append n (d ∷ xs) ys = read-append (n * 10 + (d - 48)) xs ys
 
-back-at : (fuel n : ℕ) → (10 ≤ n → readFrom 0 (digitsFrom fuel (n / 10)) ≡ n / 10) → (t : Bool) → ltb n 10 ≡ t → readFrom 0 (digitsFrom (suc fuel) n) ≡ n
+back-at : (fuel n : ℕ) → (10 ≤ n → readFrom 0 (digitsFrom fuel (n / 10)) ≡ n / 10) → (t : Bool) → ltb n 10 ≡ t →
+    readFrom 0 (digitsFrom (suc fuel) n) ≡ n
 unfolding readFrom
 back-at fuel n ih true e = ap (readFrom 0) (one-digit fuel n (ltb-true n 10 e)) ∙ omega arith
 back-at fuel n ih false e =
@@ -66,7 +67,8 @@ only-last (x ∷ xs) d h e =
     (kept (leb x 57) (onlyDigits xs) (onlyDigits (xs ++ (digit d ∷ []))) (only-last xs d h))
     e
 
-only-at : (fuel n : ℕ) → (10 ≤ n → onlyDigits (digitsFrom fuel (n / 10)) ≡ true) → (t : Bool) → ltb n 10 ≡ t → onlyDigits (digitsFrom (suc fuel) n) ≡ true
+only-at : (fuel n : ℕ) → (10 ≤ n → onlyDigits (digitsFrom fuel (n / 10)) ≡ true) → (t : Bool) → ltb n 10 ≡ t →
+    onlyDigits (digitsFrom (suc fuel) n) ≡ true
 unfolding onlyDigits
 only-at fuel n ih true e = let h : n < 10 = ltb-true n 10 e in rw (one-digit fuel n h) (only-last [] n h refl)
 only-at fuel n ih false e =
@@ -91,7 +93,8 @@ unfolding first
 first-append [] ys h = absurd (omega arith)
 first-append (d ∷ xs) ys h = refl
 
-leads-at : (fuel n : ℕ) → 1 ≤ n → (10 ≤ n → 49 ≤ first (digitsFrom fuel (n / 10))) → (t : Bool) → ltb n 10 ≡ t → 49 ≤ first (digitsFrom (suc fuel) n)
+leads-at : (fuel n : ℕ) → 1 ≤ n → (10 ≤ n → 49 ≤ first (digitsFrom fuel (n / 10))) → (t : Bool) → ltb n 10 ≡ t →
+    49 ≤ first (digitsFrom (suc fuel) n)
 unfolding first
 leads-at fuel n some ih true e = rw (one-digit fuel n (ltb-true n 10 e)) (omega arith)
 leads-at fuel n some ih false e =
@@ -101,7 +104,8 @@ leads-at fuel n some ih false e =
 
 leads : (fuel n : ℕ) → n < fuel → 1 ≤ n → 49 ≤ first (digitsFrom fuel n)
 leads zero n h some = absurd (omega arith)
-leads (suc fuel) n h some = leads-at fuel n some (λ ten. leads fuel (n / 10) (omega arith) (omega arith)) (ltb n 10) refl
+leads (suc fuel) n h some =
+    leads-at fuel n some (λ ten. leads fuel (n / 10) (omega arith) (omega arith)) (ltb n 10) refl
 
 -- NO ZERO LEADS, but for 0, which is `0`
 pub decimal-leads : (n : ℕ) → 1 ≤ n → 49 ≤ first (decimal n)
@@ -110,7 +114,8 @@ decimal-leads n = leads (suc n) n (omega arith)
 pub decimal-zero : decimal 0 ≡ 48 ∷ []
 decimal-zero = one-digit 0 0 (omega arith)
 
-most-at : (k fuel n : ℕ) → (10 ≤ n → length (digitsFrom fuel (n / 10)) ≤ k) → (t : Bool) → ltb n 10 ≡ t → length (digitsFrom (suc fuel) n) ≤ suc k
+most-at : (k fuel n : ℕ) → (10 ≤ n → length (digitsFrom fuel (n / 10)) ≤ k) → (t : Bool) → ltb n 10 ≡ t →
+    length (digitsFrom (suc fuel) n) ≤ suc k
 most-at k fuel n ih true e = rw (one-digit fuel n (ltb-true n 10 e)) (omega arith)
 most-at k fuel n ih false e =
     let h : 10 ≤ n = ltb-false n 10 e in
@@ -132,7 +137,8 @@ decimal-most k n = most k (suc n) n (omega arith)
 glyph-digit : (d : ℕ) → d < 10 → glyph d ≡ digit d
 glyph-digit d h = simp (lt-ltb d 10 h)
 
-spelled : (k fuel n : ℕ) → n < fuel → n < 10 ^ suc k → (1 < suc k → 10 ^ k ≤ n) → digits 10 (suc k) n ≡ digitsFrom fuel n
+spelled : (k fuel n : ℕ) → n < fuel → n < 10 ^ suc k → (1 < suc k → 10 ^ k ≤ n) →
+    digits 10 (suc k) n ≡ digitsFrom fuel n
 spelled k zero n h l least = absurd (omega arith)
 spelled zero (suc fuel) n h l least =
     let z : n < 10 = l in
@@ -144,19 +150,14 @@ spelled (suc k) (suc fuel) n h l least =
     let q : 10 ^ k * 10 ≤ n = rw (pow-suc 10 k) at p in
     let one : 1 ≤ 10 ^ k = one-le-pow k 10 (omega arith) in
     let ten : 10 ≤ n = omega arith in
-    ap (λ (xs : List ℕ). xs ++ (glyph (n % 10) ∷ [])) (spelled k fuel (n / 10) (omega arith) (omega arith) (λ two. omega arith))
+    ap (λ (xs : List ℕ). xs ++ (glyph (n % 10) ∷ []))
+    (spelled k fuel (n / 10) (omega arith) (omega arith) (λ two. omega arith))
     ∙ ap (λ (d : ℕ). digitsFrom fuel (n / 10) ++ (d ∷ [])) (glyph-digit (n % 10) (omega arith))
     ∙ sym (more-digits fuel n ten)
 
-fewest : (n k : ℕ) → Fewest 10 1 n k → digits 10 k n ≡ decimal n
+-- THE DIGITS OF `io::decimal` ARE THESE
+pub fewest : (n k : ℕ) → Fewest 10 1 n k → digits 10 k n ≡ decimal n
 fewest n zero f = absurd (omega (arith, f .0))
 fewest n (suc k) f =
     let e : suc k - 1 ≡ k = omega arith in
     spelled k (suc n) n (omega arith) (f .1) (λ two. subst (λ (j : ℕ). 10 ^ j ≤ n) e (f .2 two))
-
--- THE DIGITS OF `io::decimal` ARE THESE, at most twenty of a number of 64 bits
-pub spelt : (n k : ℕ) (out : List ℕ) → Fewest 10 1 n k → take k out ≡ digits 10 k n → take k out ≡ decimal n
-spelt n k out f e = e ∙ fewest n k f
-
-pub few : (n k : ℕ) (out : List ℕ) → n < 10 ^ 20 → Fewest 10 1 n k → take k out ≡ digits 10 k n → length (take k out) ≤ 20
-few n k out h f e = let m = decimal-most 19 n h in rw (spelt n k out f e) m

@@ -1,4 +1,4 @@
 pub mod Decimals
-pub mod Lines
+pub mod Ends
 pub mod Bound
 pub mod Examples

@@ -1,8 +1,8 @@
--- `dictionary::run` meets its contract: a turn of the loop is a turn of the definition. Each atom takes a byte at least, so
--- that the bytes left are the measure.
+-- `dictionary::run` meets its contract: a turn of the loop is a turn of the definition. Each atom takes a byte at
+-- least, so that the bytes left are the measure.
 use Prim.Native.Nat.{_-_}
 use lib.ListN.{length}
-use Rattle.dictionary.proofs.Running.{Running, run-ends}
+use Rattle.dictionary.proofs.Running.{Running, run-laws}
 use Rattle.dictionary.proofs.run.Statement.{statement}
 use Rattle.dictionary.proofs.run.Tie as tie
 
@@ -13,13 +13,16 @@ abbrev μ-loop : tie.MeasureT-loop
 μ-loop source atoms₀ at₀ left₀ atoms at left = length source - at
 
 loop-again : tie.Need-loop-again Inv-loop μ-loop
-loop-again c = search run-ends
+loop-again c = search run-laws
+
+loop-again-2 : tie.Need-loop-again-2 Inv-loop μ-loop
+loop-again-2 c = search run-laws
 
 returns : tie.Need-returns Inv-loop μ-loop
-returns c = search run-ends
+returns c = search run-laws
 
 returns-2 : tie.Need-returns-2 Inv-loop μ-loop
-returns-2 c = search run-ends
+returns-2 c = search run-laws
 
 pub run-spec : {M : Type 1} → statement M
 run-spec =
@@ -27,19 +30,19 @@ run-spec =
     (tie.spec
     Inv-loop
     μ-loop
-    (λ c. search run-ends)
-    (λ c κs. search run-ends)
-    (λ c. search run-ends)
-    (λ c. search run-ends)
-    (λ c. search run-ends)
-    (λ c. search run-ends)
-    (λ c. search run-ends)
+    (λ c. search run-laws)
+    (λ c κs. search run-laws)
+    (λ c. search run-laws)
+    (λ c. search run-laws)
+    (λ c. search run-laws)
+    (λ c. search run-laws)
+    (λ c. search run-laws)
     loop-again
-    (λ c κs. search run-ends)
-    (λ c. search run-ends)
-    (λ c. search run-ends)
-    (λ c. search run-ends)
-    (λ c. search run-ends)
-    (λ c. search run-ends)
+    (λ c κs. search run-laws)
+    (λ c. search run-laws)
+    (λ c. search run-laws)
+    (λ c. search run-laws)
+    loop-again-2
+    (λ c. search run-laws)
     returns
     returns-2)

@@ -1,4 +1,5 @@
--- `dictionary::tally` meets its contract: a turn of the loop is a turn of the definition. The bytes left are the measure.
+-- `dictionary::tally` meets its contract: a turn of the loop is a turn of the definition. The bytes left are the
+-- measure.
 use Prim.Native.Nat.{_-_}
 use lib.ListN.{length}
 use Rattle.dictionary.proofs.Tallying.{Tallying, tally-laws}
@@ -6,7 +7,8 @@ use Rattle.dictionary.proofs.tally.Statement.{statement}
 use Rattle.dictionary.proofs.tally.Tie as tie
 
 abbrev Inv-loop : tie.InvT-loop
-Inv-loop source atoms₀ body₀ charge₀ letters₀ at₀ atoms body charge letters at = Tallying source atoms body charge letters at
+Inv-loop source atoms₀ body₀ charge₀ letters₀ at₀ atoms body charge letters at =
+    Tallying source atoms body charge letters at
 
 abbrev μ-loop : tie.MeasureT-loop
 μ-loop source atoms₀ body₀ charge₀ letters₀ at₀ atoms body charge letters at = length source - at

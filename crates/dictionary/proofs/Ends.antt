@@ -1,0 +1,117 @@
+-- The ends of the step: what each of its functions has in hand at a return, and what it answers there.
+use mathlib.Core.Path.{_≡_, refl, _∙_, sym, ap, subst}
+use mathlib.Core.Bool.{Bool, true, false}
+use mathlib.Core.List.{List, [], _∷_}
+use Prim.Native.Nat.{ℕ, _+_, _-_, _≤_, _<_}
+use native.Mathlib.Omega.{arith}
+use borrow.Author.Needs.{needs}
+use borrow.Author.Tests.{lt-ltb}
+use lib.ListN.{length}
+use types.Run.{OneOf, miss}
+use denote.Enum.Declared.{tagOf}
+use Rattle.types.proofs.Kind.{the-type}
+use Rattle.types.specs.declared.Way.the-variants as W
+use Rattle.types.specs.declared.Kind.{Kind}
+use Rattle.types.specs.declared.Kind.the-variants as K
+use Rattle.types.specs.declared.Place.{Place}
+use Rattle.types.specs.declared.Budget.{Budget}
+use Rattle.types.specs.declared.Refusal.{Refusal}
+use Rattle.types.specs.declared.Refusal.the-variants as R
+use Rattle.types.specs.declared.HeaderAnswer.{HeaderAnswer}
+use Rattle.types.specs.declared.HeaderAnswer.the-variants as H
+use Rattle.types.specs.declared.Skipped.{Skipped}
+use Rattle.types.specs.declared.Skipped.the-variants as SK
+use Rattle.header.specs.Header.{headerRead}
+use Rattle.header.proofs.Places.{headerPlace, header-place}
+use Rattle.reader.specs.Strings.{startOf}
+use Rattle.reader.proofs.Strings.{start-within}
+use Rattle.integer.specs.Integers.{allowedCount}
+use Rattle.float.specs.Floats.{allowedFloat}
+use Rattle.atom.specs.Charges.{countOf, numberCharge}
+use Rattle.atom.specs.Atoms.{atomRead}
+use Rattle.dictionary.specs.Steps.{skipped, bodyPast, bodyAfter}
+use Rattle.dictionary.proofs.Bodies.{past-over, past-unknown, past-eof, past-whole, header-only, special-other}
+use Rattle.dictionary.proofs.Bodies.{after-header}
+
+-- a body whose charge is known: the charge exceeds the budget
+module _ (size at left : ℕ) (string : Bool) (len price charge : ℕ) (allowed : Bool) (why : Refusal)
+    (priced : charge ≡ price) where
+  pub body-over-budget : left < charge →
+      SK.Refused (record { 0 = at }) (record { 0 = left }) R.TooManyBytesRead
+      ≡ bodyPast size at left string len price allowed why
+  body-over-budget h = cc (past-over size at left string len charge why allowed h)
+
+  module _ (paid : charge ≤ left) where
+    -- it does not, and the atom is not known
+    pub body-unknown : allowed ≡ false →
+        SK.Refused (record { 0 = at }) (record { 0 = left - charge }) why
+        ≡ bodyPast size at left string len price allowed why
+    body-unknown f = cc (past-unknown size at left string len charge why paid)
+
+    -- it is: its bytes are cut, or whole
+    module _ (k : allowed ≡ true) (within : at ≤ size) where
+      pub body-cut : size - at < len →
+          SK.Refused (record { 0 = size }) (record { 0 = left - charge }) R.Eof
+          ≡ bodyPast size at left string len price allowed why
+      body-cut h = cc (past-eof size at left string len charge why paid (omega arith))
+
+      pub body-whole : len ≤ size - at →
+          SK.Past (record { 0 = at + len }) (record { 0 = left - charge }) (record { 0 = at }) string
+          ≡ bodyPast size at left string len price allowed why
+      body-whole h = cc (past-whole size at left string len charge why paid (omega arith))
+
+pub ruleset body-ends = (body-over-budget, body-unknown, body-cut, body-whole, needs)
+
+-- Int and UInt, by the tag that led there
+integral : (size at left : ℕ) (kind : Kind) (arg : ℕ) → OneOf (1 ∷ 2 ∷ []) (tagOf the-type kind) →
+    bodyPast size at left false (countOf arg) (numberCharge (countOf arg)) (allowedCount (countOf arg))
+    (R.UnsupportedByteCount kind (countOf arg))
+    ≡ bodyAfter size kind arg at left
+integral size at left K.Int arg h = refl
+integral size at left K.UInt arg h = refl
+integral size at left K.Special arg h = absurd (miss (1 ∷ 2 ∷ []) 0 tt h)
+integral size at left K.Float arg h = absurd (miss (1 ∷ 2 ∷ []) 3 tt h)
+integral size at left K.Sequence arg h = absurd (miss (1 ∷ 2 ∷ []) 4 tt h)
+integral size at left K.Map arg h = absurd (miss (1 ∷ 2 ∷ []) 5 tt h)
+integral size at left K.Symbol arg h = absurd (miss (1 ∷ 2 ∷ []) 6 tt h)
+integral size at left K.Bytes arg h = absurd (miss (1 ∷ 2 ∷ []) 7 tt h)
+
+-- a body of bytes, by its header's kind: what `skip_number` and `skip_bytes` answer of it
+module _ (size : ℕ) (kind : Kind) (arg at left : ℕ) (r : Skipped) where
+  module _ (count : ℕ) (allowed : Bool) (counted : count ≡ countOf arg)
+      (e : r ≡ bodyPast size at left false count (numberCharge count) allowed (R.UnsupportedByteCount kind count)) where
+    pub integer-body : OneOf (1 ∷ 2 ∷ []) (tagOf the-type kind) → allowed ≡ allowedCount count →
+        r ≡ bodyAfter size kind arg at left
+    integer-body k a = cc (integral size at left kind arg k)
+
+    pub float-body : kind ≡ K.Float → allowed ≡ allowedFloat count → r ≡ bodyAfter size kind arg at left
+    float-body k a = rw (k, ← counted, ← a) (rw k at e)
+
+  pub string-body : kind ≡ K.Bytes → r ≡ bodyPast size at left true arg arg true R.Eof →
+      r ≡ bodyAfter size kind arg at left
+  string-body k e = rw k e
+
+pub ruleset kind-ends = (header-only, special-other, integer-body, float-body, string-body, lt-ltb, needs)
+
+-- an atom, once its header is read
+module _ (s : List ℕ) (place : ℕ) (budget : Budget) (header : HeaderAnswer)
+    (read : header ≡ headerRead W.ExactLent s place) where
+  module _ (next : Place) (kind : Kind) (arg : ℕ) (e : header ≡ H.Read next kind arg) where
+    -- the body is within the source
+    pub body-within : next .0 ≤ length s
+    body-within =
+        subst (λ (n : ℕ). n ≤ length s) (ap headerPlace (sym read ∙ e))
+        (header-place W.ExactLent s (startOf s place) (start-within s place) .1)
+
+    -- what the body does
+    pub atom-body : (r : Skipped) → r ≡ bodyAfter (length s) kind arg (next .0) (budget .0) → r ≡ skipped s place budget
+    unfolding skipped atomRead
+    atom-body r b = cc (after-header s arg next budget kind body-within)
+
+  -- the header is refused
+  pub header-refused : (end : Place) (why : Refusal) → header ≡ H.Refused end why →
+      SK.Refused end budget why ≡ skipped s place budget
+  unfolding skipped atomRead
+  header-refused end why e = cc
+
+pub ruleset atom-ends = (body-within, atom-body, header-refused, needs)
