@@ -149,20 +149,11 @@ module _ (way : Way) (s : List ℕ) (arg : ℕ) (next : Place) (budget : Budget)
 pub tested : (ok said found : Bool) → ok ≡ said → ok ≡ found → said ≡ found
 tested ok said found s f = sym s ∙ f
 
-pub ruleset number-ends = (
-  number-too-dear,
-  number-unsupported,
-  number-whole,
-  number-past-end,
-  number-filled,
-  integer-held,
-  float-held,
-  float-made,
-  integer-as-number,
-  float-as-number,
-  tested,
-  needs,
-)
+pub ruleset judged-ends = (number-too-dear, number-unsupported, number-whole, number-past-end, number-filled)
+
+pub ruleset held-ends = (integer-held, float-held, float-made, integer-as-number, float-as-number)
+
+pub ruleset number-ends = (judged-ends, held-ends, tested, needs)
 
 -- a string, once its header is read
 module _ (way : Way) (s : List ℕ) (arg : ℕ) (next : Place) (budget : Budget) (scratch : List ℕ) (paid : BudgetAnswer)

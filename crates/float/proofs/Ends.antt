@@ -6,10 +6,8 @@ use Prim.Native.Nat.{ℕ, _+_, _-_, _≤_, _<_, _^_}
 use native.Mathlib.Omega.{arith}
 use borrow.Author.Needs.{needs}
 use borrow.Author.Tests.{le-leb, lt-leb, eq-eqb, ne-eqb, not-true, not-false}
-use lib.Dec.{T}
 use lib.Ieee as Ieee
 use lib.ListN.{length}
-use Rattle.types.specs.Choice.{pick}
 use Rattle.types.specs.Counters.{placeIn}
 use Rattle.types.specs.Kinds.{kindCode}
 use Rattle.types.specs.Ways.{exact}
@@ -34,7 +32,7 @@ use Rattle.binary.specs.Formats.{half, single, double}
 use Rattle.binary.specs.Conversions.{widened, narrowed, narrowedMeaning, answer16, answer32}
 use Rattle.binary.specs.Floats.{floatMeaning}
 use Rattle.binary.proofs.Laws.{exact16, lost16, exact32, lost32}
-use Rattle.float.specs.Floats.{floatCounts, allowedFloat, floatOf, floatBody, floatFrom, floatRead}
+use Rattle.float.specs.Floats.{allowedFloat, floatOf, floatBody, floatFrom, floatRead}
 use Rattle.float.specs.Bytes.{floatBytes, f32Bytes, f64Bytes, valueBytes}
 use Rattle.float.specs.Values.{floatValue, atMost, isZero, asF32, ifEqual, equalNumbers, equalFloats}
 use Rattle.float.proofs.Counts.{allowed-most, allowed-last}
@@ -96,8 +94,9 @@ module _ (count : ℕ) where
 
 pub ruleset allowed-ends = (two-allowed, four-allowed, eight-allowed, others-not-allowed, needs)
 
-pub ruleset count-ends = (float-of-two, float-of-four, float-of-eight, two-bytes-fit, four-bytes-fit, bits-of, bits-below,
-    eight-there, allowed-last, allowed-most, needs)
+pub ruleset of-counts = (float-of-two, float-of-four, float-of-eight, two-bytes-fit, four-bytes-fit)
+
+pub ruleset count-ends = (of-counts, bits-of, bits-below, eight-there, allowed-last, allowed-most, needs)
 
 -- a float read at a place within the source, whose kind has a code
 module _ (way : Way) (s : List ℕ) (at count : ℕ) (kind : Kind) (code : ℕ) (d : code ≡ kindCode kind) where
@@ -153,8 +152,9 @@ pub read-within : (way : Way) (s : List ℕ) (place at : ℕ) (kind : Kind) (cou
     answer ≡ floatRead way s place kind count
 read-within way s place at kind count answer w e = cc
 
-pub ruleset read-ends = (kind-refused, count-refused, read-whole, read-past-end, read-filled, passed, failed,
-    bytes-there, read-within, needs)
+pub ruleset judged-ends = (kind-refused, count-refused, read-whole, read-past-end, read-filled)
+
+pub ruleset read-ends = (judged-ends, passed, failed, bytes-there, read-within, needs)
 
 -- bytes were written that are those of the value
 module _ (these bytes old : List ℕ) where
@@ -201,8 +201,9 @@ module _ (x : Ieee.Float) where
   unfolding valueBytes
   f64-value v e = cc
 
-pub ruleset write-ends = (answered, stored, half-written, single-written, narrower-written, double-written, f32-pattern,
-    f64-pattern, f32-value, f64-value, needs)
+pub ruleset by-narrowing = (half-written, single-written, narrower-written, double-written)
+
+pub ruleset write-ends = (answered, stored, by-narrowing, f32-pattern, f64-pattern, f32-value, f64-value, needs)
 
 -- what a float answers of itself, by its variant
 module _ (x : Float) (value : Ieee.Float) where

@@ -47,9 +47,11 @@ pub body-back : (way : Way) (kind : Kind) (n bits : ℕ) (before after s : List 
     s ≡ before ++ (toLE n bits ++ after) → bits < 256 ^ n →
     integerBody way s (length before) kind n ≡ IA.Read (record { 0 = length before + n }) (integerOf kind n bits)
 body-back way kind n bits before after s e h =
-    let written : length (toLE n bits) ≡ n = to-length n bits in
-    let follows : length (toLE n bits ++ after) ≡ length (toLE n bits) + length after = length-append _ after in
-    let long : length s ≡ length before + length (toLE n bits ++ after) = ap length e ∙ length-append before _ in
+    let written : List ℕ = toLE n bits in
+    let wide : length written ≡ n = to-length n bits in
+    let follows : length (written ++ after) ≡ length written + length after = length-append written after in
+    let long : length s ≡ length before + length (written ++ after) =
+    ap length e ∙ length-append before (written ++ after) in
     let number : numberAt n s (length before) ≡ bits =
     number-reads n bits s (length before) before after e refl ∙ mod-eq-of-lt h in
     body-whole way s (length before) kind n (omega arith)
