@@ -3,6 +3,9 @@ use Rattle.atom.proofs.Ends.{body-ends}
 use Rattle.atom.proofs.read_body.Statement.{statement}
 use Rattle.atom.proofs.read_body.Tie as tie
 
+returns-2 : tie.Need-returns-2
+returns-2 c = search body-ends
+
 returns-3 : tie.Need-returns-3
 returns-3 c = search body-ends
 
@@ -18,7 +21,7 @@ read-body-spec =
     (λ c. search body-ends)
     (λ c. search body-ends)
     (λ c κs. search body-ends)
-    (λ c. search body-ends)
+    returns-2
     (λ c. search body-ends)
     (λ c κs. search body-ends)
     returns-3

@@ -3,6 +3,12 @@ use Rattle.float.proofs.Ends.{write-ends}
 use Rattle.float.proofs.write_f64_bits.Statement.{statement}
 use Rattle.float.proofs.write_f64_bits.Tie as tie
 
+returns : tie.Need-returns
+returns c = search write-ends
+
+returns-2 : tie.Need-returns-2
+returns-2 c = search write-ends
+
 pub write-f64-bits-spec : {M : Type 1} → statement M
 write-f64-bits-spec =
     tie.close
@@ -11,8 +17,8 @@ write-f64-bits-spec =
     (λ c. search write-ends)
     (λ c κs. search write-ends)
     (λ c. search write-ends)
-    (λ c. search write-ends)
+    returns
     (λ c. search write-ends)
     (λ c κs. search write-ends)
     (λ c. search write-ends)
-    (λ c. search write-ends))
+    returns-2)

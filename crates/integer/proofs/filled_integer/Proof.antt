@@ -3,6 +3,9 @@ use Rattle.integer.proofs.Ends.{kind-ends}
 use Rattle.integer.proofs.filled_integer.Statement.{statement}
 use Rattle.integer.proofs.filled_integer.Tie as tie
 
+returns-2 : tie.Need-returns-2
+returns-2 c = search kind-ends
+
 pub filled-integer-spec : {M : Type 1} → statement M
 filled-integer-spec =
     tie.close
@@ -11,4 +14,4 @@ filled-integer-spec =
     (λ c κs. search kind-ends)
     (λ c. search kind-ends)
     (λ c κs. search kind-ends)
-    (λ c. search kind-ends))
+    returns-2)

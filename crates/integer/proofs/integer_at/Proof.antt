@@ -3,6 +3,9 @@ use Rattle.integer.proofs.Ends.{kind-ends}
 use Rattle.integer.proofs.integer_at.Statement.{statement}
 use Rattle.integer.proofs.integer_at.Tie as tie
 
+returns-2 : tie.Need-returns-2
+returns-2 c = search kind-ends
+
 pub integer-at-spec : {M : Type 1} → statement M
 integer-at-spec =
     tie.close
@@ -11,4 +14,4 @@ integer-at-spec =
     (λ c κs. search kind-ends)
     (λ c. search kind-ends)
     (λ c κs. search kind-ends)
-    (λ c. search kind-ends))
+    returns-2)
