@@ -3,4 +3,3 @@ pub mod Ends
 pub mod Answers
 pub mod Counts
 pub mod RoundTrip
-pub mod Places
