@@ -1,66 +1,270 @@
 -- The ends of the readers of one atom: at each return, what the body has in hand there and what it answers.
 use mathlib.Core.Path.{_≡_, refl, _∙_, sym, ap}
 use mathlib.Core.Bool.{Bool, true, false}
-use mathlib.Core.List.{List}
-use Prim.Native.Nat.{ℕ, _+_, _-_, _≤_, _<_, _^_}
+use mathlib.Core.List.{List, [], _∷_}
+use Prim.Native.Nat.{ℕ, _+_, _-_, _≤_, _<_}
 use native.Mathlib.Omega.{arith}
 use borrow.Author.Needs.{needs}
-use borrow.Author.Tests.{le-leb, lt-leb}
-use mir.Val.{Fits}
-use mir.Syntax.{w64}
+use borrow.Author.Tests.{le-leb, lt-leb, lt-ltb, le-ltb, ne-eqb}
+use types.Run.{OneOf, miss}
+use denote.Enum.Declared.{tagOf}
 use lib.ListN.{length}
+use Rattle.types.specs.Kinds.{specialFrom}
 use Rattle.types.specs.Ways.{exact}
+use Rattle.types.proofs.Kind.{the-type}
 use Rattle.types.specs.declared.Way.{Way}
 use Rattle.types.specs.declared.Kind.{Kind}
 use Rattle.types.specs.declared.Kind.the-variants as K
+use Rattle.types.specs.declared.Special.{Special}
 use Rattle.types.specs.declared.Place.{Place}
 use Rattle.types.specs.declared.Budget.{Budget}
+use Rattle.types.specs.declared.Mark.{Mark}
 use Rattle.types.specs.declared.Integer.{Integer}
+use Rattle.types.specs.declared.Float.{Float}
+use Rattle.types.specs.declared.Nucleus.{Nucleus}
 use Rattle.types.specs.declared.Nucleus.the-variants as N
 use Rattle.types.specs.declared.Atom.{Atom}
 use Rattle.types.specs.declared.Refusal.{Refusal}
 use Rattle.types.specs.declared.Refusal.the-variants as R
+use Rattle.types.specs.declared.SpecialAnswer.{SpecialAnswer}
+use Rattle.types.specs.declared.SpecialAnswer.the-variants as SA
 use Rattle.types.specs.declared.BudgetAnswer.{BudgetAnswer}
 use Rattle.types.specs.declared.BudgetAnswer.the-variants as BA
+use Rattle.types.specs.declared.BytesAnswer.{BytesAnswer}
+use Rattle.types.specs.declared.BytesAnswer.the-variants as B
+use Rattle.types.specs.declared.HeaderAnswer.{HeaderAnswer}
+use Rattle.types.specs.declared.HeaderAnswer.the-variants as H
 use Rattle.types.specs.declared.AtomAnswer.{AtomAnswer}
 use Rattle.types.specs.declared.AtomAnswer.the-variants as A
 use Rattle.little.specs.Le.{numberAt}
-use Rattle.integer.specs.Integers.{allowedCount, integerKind, integerOf, integerFrom, integerBody}
+use Rattle.header.specs.Header.{headerRead}
+use Rattle.header.proofs.Places.{headerPlace, header-place}
+use Rattle.reader.specs.Strings.{startOf, stringAnswer, stringScratch}
+use Rattle.reader.proofs.Strings.{start-within}
+use Rattle.integer.specs.Integers.{integerKind, integerOf}
+use Rattle.float.specs.Floats.{floatOf}
 use Rattle.atom.specs.Charges.{countOf, numberCharge, budgetAfter}
-use Rattle.atom.specs.Atoms.{atomOf, integerAtom, integerAfter}
+use Rattle.atom.specs.Atoms.{atomOf, specialNucleus, specialAtom, integerAfter, floatAfter, bytesAfter}
+use Rattle.atom.specs.Atoms.{scratchCharged, atomAfter, scratchAfter, atomRead, atomScratch}
 use Rattle.atom.proofs.Answers.{too-many}
+use Rattle.atom.proofs.Numbers.{Number, integers, floats, numberAfter, integer-number, float-number}
 
--- an integer, once its header is read and its charge judged
-module _ (way : Way) (s : List ℕ) (kind : Kind) (arg : ℕ) (next : Place) (budget : Budget) where
-  module _ (bytes charge : ℕ) (paid : BudgetAnswer) (b : bytes ≡ countOf arg) (n : charge ≡ numberCharge bytes) (p : paid ≡ budgetAfter budget charge) where
+-- what a number costs in memory
+module _ (count : ℕ) where
+  pub three-cost-four : count ≡ 3 → 4 ≡ numberCharge count
+  three-cost-four e = simp e
+
+  pub six-cost-eight : count ≡ 6 → 8 ≡ numberCharge count
+  six-cost-eight e = simp e
+
+  pub others-cost-themselves : (count ≡ 3 → ⊥) → (count ≡ 6 → ⊥) → count ≡ numberCharge count
+  others-cost-themselves e f = simp (ne-eqb count 3 e, ne-eqb count 6 f)
+
+-- what is left of a budget
+module _ (budget : Budget) (charge : ℕ) where
+  pub budget-short : budget .0 < charge → BA.Refused R.TooManyBytesRead ≡ budgetAfter budget charge
+  budget-short l = simp (lt-ltb (budget .0) charge l)
+
+  pub budget-enough : charge ≤ budget .0 → BA.Left (record { 0 = budget .0 - charge }) ≡ budgetAfter budget charge
+  budget-enough l = simp (le-ltb (budget .0) charge l)
+
+pub ruleset charge-ends =
+    (three-cost-four, six-cost-eight, others-cost-themselves, budget-short, budget-enough, needs)
+
+-- a special, known and not
+module _ (arg : ℕ) (next : Place) (budget : Budget) (got : SpecialAnswer) (g : got ≡ specialFrom arg) where
+  pub special-known : (special : Special) (nucleus : Nucleus) → got ≡ SA.Known special →
+      nucleus ≡ specialNucleus special →
+      A.Read next budget (atomOf K.Special arg nucleus) ≡ specialAtom arg next budget (specialFrom arg)
+  special-known special nucleus e n = cc
+
+  pub special-unknown : (r : Refusal) → got ≡ SA.Refused r →
+      A.Refused next budget r ≡ specialAtom arg next budget (specialFrom arg)
+  special-unknown r e = cc
+
+pub ruleset special-ends = (special-known, special-unknown, needs)
+
+-- the atom of a number: what it holds was made before
+pub integer-held : (kind : Kind) (arg count bits : ℕ) (value : Integer) (atom : Atom) →
+    value ≡ integerOf kind count bits → atom ≡ atomOf kind arg (N.Integer value) →
+    atom ≡ atomOf kind arg (N.Integer (integerOf kind count bits))
+integer-held kind arg count bits value atom v a = cc
+
+pub float-held : (arg count bits stored : ℕ) (atom : Atom) → stored ≡ bits →
+    atom ≡ atomOf K.Float arg (N.Float (floatOf count stored) stored) →
+    atom ≡ atomOf K.Float arg (N.Float (floatOf count bits) bits)
+float-held arg count bits stored atom v a = cc
+
+pub float-made : (arg count bits : ℕ) (value : Float) → value ≡ floatOf count bits →
+    atomOf K.Float arg (N.Float value bits) ≡ atomOf K.Float arg (N.Float (floatOf count bits) bits)
+float-made arg count bits value v = cc
+
+-- a number, once its header is read and its charge judged
+module _ (n : Number) (way : Way) (s : List ℕ) (arg : ℕ) (next : Place) (budget : Budget) where
+  module _ (count charge : ℕ) (paid : BudgetAnswer) (c : count ≡ countOf arg) (h : charge ≡ numberCharge count)
+      (p : paid ≡ budgetAfter budget charge) where
     -- the charge exceeds the budget
-    pub integer-too-many : (r : Refusal) → paid ≡ BA.Refused r → A.Refused next budget R.TooManyBytesRead ≡ integerAfter way s kind arg next budget
-    unfolding integerAfter
-    integer-too-many r e = cc (too-many budget charge r (sym p ∙ e))
+    pub number-too-dear : (r : Refusal) → paid ≡ BA.Refused r →
+        A.Refused next budget R.TooManyBytesRead ≡ numberAfter n way s arg next budget
+    unfolding numberAfter
+    number-too-dear r e = cc (too-many budget charge r (sym p ∙ e))
 
-    module _ (rest : Budget) (ok : Bool) (left : paid ≡ BA.Left rest) (o : ok ≡ allowedCount bytes) (k : integerKind kind ≡ true) where
+    module _ (rest : Budget) (ok : Bool) (left : paid ≡ BA.Left rest) (o : ok ≡ n .allowed count) where
       -- the count is not allowed
-      pub integer-unsupported : ok ≡ false → A.Refused next rest (R.UnsupportedByteCount kind bytes) ≡ integerAfter way s kind arg next budget
-      unfolding integerAfter integerFrom
-      integer-unsupported f = cc
+      pub number-unsupported : (kind : Kind) → n .kind ≡ kind → ok ≡ false →
+          A.Refused next rest (R.UnsupportedByteCount kind count) ≡ numberAfter n way s arg next budget
+      unfolding numberAfter
+      number-unsupported kind k f = cc
 
-      -- it is allowed: the bytes are there; they are not, in exact reading, and in filled reading
-      module _ (f : ok ≡ true) (room : next .0 ≤ length s) where
-        pub integer-whole : (value : Integer) (atom : Atom) → bytes ≤ length s - next .0 → value ≡ integerOf kind bytes (numberAt bytes s (next .0)) → atom ≡ atomOf kind arg (N.Integer value) → A.Read (record { 0 = next .0 + bytes }) rest atom ≡ integerAfter way s kind arg next budget
-        unfolding integerAfter integerFrom integerBody
-        integer-whole value atom l v a = cc (le-leb (next .0 + bytes) (length s) (omega arith))
+      -- it is: the bytes are there; they are not, in exact reading, and in filled reading
+      module _ (f : ok ≡ true) (within : next .0 ≤ length s) where
+        pub number-whole : (atom : Atom) → count ≤ length s - next .0 →
+            atom ≡ atomOf (n .kind) arg (n .nucleus count (numberAt count s (next .0))) →
+            A.Read (record { 0 = next .0 + count }) rest atom ≡ numberAfter n way s arg next budget
+        unfolding numberAfter
+        number-whole atom l a = cc (le-leb (next .0 + count) (length s) (omega arith))
 
-        module _ (exactly : Bool) (l : length s - next .0 < bytes) (x : exactly ≡ exact way) where
-          pub integer-eof : exactly ≡ true → A.Refused (record { 0 = length s }) rest R.Eof ≡ integerAfter way s kind arg next budget
-          unfolding integerAfter integerFrom integerBody
-          integer-eof y = cc (lt-leb (next .0 + bytes) (length s) (omega arith))
+        module _ (exactly : Bool) (l : length s - next .0 < count) (x : exactly ≡ exact way) where
+          pub number-past-end : exactly ≡ true →
+              A.Refused (record { 0 = length s }) rest R.Eof ≡ numberAfter n way s arg next budget
+          unfolding numberAfter
+          number-past-end y = cc (lt-leb (next .0 + count) (length s) (omega arith))
 
-          pub integer-filled : (value : Integer) (atom : Atom) → exactly ≡ false → value ≡ integerOf kind bytes (numberAt bytes s (next .0)) → atom ≡ atomOf kind arg (N.Integer value) → A.Read (record { 0 = length s }) rest atom ≡ integerAfter way s kind arg next budget
-          unfolding integerAfter integerFrom integerBody
-          integer-filled value atom y v a = cc (lt-leb (next .0 + bytes) (length s) (omega arith))
+          pub number-filled : (atom : Atom) → exactly ≡ false →
+              atom ≡ atomOf (n .kind) arg (n .nucleus count (numberAt count s (next .0))) →
+              A.Read (record { 0 = length s }) rest atom ≡ numberAfter n way s arg next budget
+          unfolding numberAfter
+          number-filled atom y a = cc (lt-leb (next .0 + count) (length s) (omega arith))
+
+-- an integer and a float are numbers
+module _ (way : Way) (s : List ℕ) (arg : ℕ) (next : Place) (budget : Budget) (answer : AtomAnswer) where
+  pub integer-as-number : (kind : Kind) → integerKind kind ≡ true →
+      answer ≡ numberAfter (integers kind) way s arg next budget → answer ≡ integerAfter way s kind arg next budget
+  integer-as-number kind k e = e ∙ sym (integer-number way s arg next budget kind k)
+
+  pub float-as-number : answer ≡ numberAfter floats way s arg next budget → answer ≡ floatAfter way s arg next budget
+  float-as-number e = e ∙ sym (float-number way s arg next budget)
 
 -- a test that a callee made, and how it came out
 pub tested : (ok said found : Bool) → ok ≡ said → ok ≡ found → said ≡ found
 tested ok said found s f = sym s ∙ f
 
-pub ruleset integer-ends = (integer-too-many, integer-unsupported, integer-whole, integer-filled, integer-eof, tested, needs)
+pub ruleset judged-ends = (number-too-dear, number-unsupported, number-whole, number-past-end, number-filled)
+
+pub ruleset held-ends = (integer-held, float-held, float-made, integer-as-number, float-as-number)
+
+pub ruleset number-ends = (judged-ends, held-ends, tested, needs)
+
+-- a string, once its header is read
+module _ (way : Way) (s : List ℕ) (arg : ℕ) (next : Place) (budget : Budget) (scratch : List ℕ) (paid : BudgetAnswer)
+    (p : paid ≡ budgetAfter budget arg) where
+  -- the charge exceeds the budget, and scratch is as it was
+  pub string-too-dear : (r : Refusal) → paid ≡ BA.Refused r →
+      A.Refused next budget R.TooManyBytesRead ≡ bytesAfter way s arg next budget scratch
+  unfolding bytesAfter
+  string-too-dear r e = cc (too-many budget arg r (sym p ∙ e))
+
+  pub scratch-kept : (r : Refusal) → paid ≡ BA.Refused r →
+      scratch ≡ scratchCharged way s (next .0) arg scratch (budgetAfter budget arg)
+  scratch-kept r e = cc
+
+  -- it does not: the string is read, or refused, and scratch is as the string leaves it
+  module _ (rest : Budget) (left : paid ≡ BA.Left rest) where
+    module _ (got : BytesAnswer) (g : got ≡ stringAnswer way s (next .0) arg scratch) (place : Place) where
+      pub string-read : (mark : Mark) (atom : Atom) → got ≡ B.Read place mark →
+          atom ≡ atomOf K.Bytes arg (N.Bytes mark) →
+          A.Read place rest atom ≡ bytesAfter way s arg next budget scratch
+      unfolding bytesAfter
+      string-read mark atom e a = cc
+
+      pub string-refused : (r : Refusal) → got ≡ B.Refused place r →
+          A.Refused place rest r ≡ bytesAfter way s arg next budget scratch
+      unfolding bytesAfter
+      string-refused r e = cc
+
+    pub scratch-filled : (filled : List ℕ) → filled ≡ stringScratch way s (next .0) arg scratch →
+        filled ≡ scratchCharged way s (next .0) arg scratch (budgetAfter budget arg)
+    scratch-filled filled e = cc
+
+pub ruleset string-ends = (string-too-dear, scratch-kept, string-read, string-refused, scratch-filled, needs)
+
+-- what follows a header of a known kind, and what it leaves in scratch
+module _ (way : Way) (s : List ℕ) (kind known : Kind) (arg : ℕ) (next : Place) (budget : Budget) (scratch : List ℕ)
+    (k : kind ≡ known) where
+  pub body-of : (answer : AtomAnswer) → answer ≡ atomAfter way s known arg next budget scratch →
+      answer ≡ atomAfter way s kind arg next budget scratch
+  body-of answer e = cc
+
+  pub scratch-of : (after : List ℕ) → after ≡ scratchAfter way s known arg next budget scratch →
+      after ≡ scratchAfter way s kind arg next budget scratch
+  scratch-of after e = cc
+
+-- the header says all
+pub header-alone : (kind known : Kind) (arg : ℕ) (next : Place) (budget : Budget) (atom : Atom) → kind ≡ known →
+    atom ≡ atomOf kind arg N.None → A.Read next budget atom ≡ A.Read next budget (atomOf known arg N.None)
+header-alone kind known arg next budget atom k a = cc
+
+-- Int and UInt have one arm, which the tag leads to
+abbrev OfIntegers : Kind → Type 0
+OfIntegers kind = OneOf (1 ∷ 2 ∷ []) (tagOf the-type kind)
+
+two-kinds : (P : Kind → Type 0) → P K.Int → P K.UInt → (kind : Kind) → OfIntegers kind → P kind
+two-kinds P i u K.Special h = absurd (miss (1 ∷ 2 ∷ []) 0 tt h)
+two-kinds P i u K.Int h = i
+two-kinds P i u K.UInt h = u
+two-kinds P i u K.Float h = absurd (miss (1 ∷ 2 ∷ []) 3 tt h)
+two-kinds P i u K.Sequence h = absurd (miss (1 ∷ 2 ∷ []) 4 tt h)
+two-kinds P i u K.Map h = absurd (miss (1 ∷ 2 ∷ []) 5 tt h)
+two-kinds P i u K.Symbol h = absurd (miss (1 ∷ 2 ∷ []) 6 tt h)
+two-kinds P i u K.Bytes h = absurd (miss (1 ∷ 2 ∷ []) 7 tt h)
+
+module _ (kind : Kind) (h : OfIntegers kind) where
+  pub integer-kind : integerKind kind ≡ true
+  integer-kind = two-kinds (λ k. integerKind k ≡ true) refl refl kind h
+
+  module _ (way : Way) (s : List ℕ) (arg : ℕ) (next : Place) (budget : Budget) (scratch : List ℕ) where
+    pub integer-body : (answer : AtomAnswer) → answer ≡ integerAfter way s kind arg next budget →
+        answer ≡ atomAfter way s kind arg next budget scratch
+    integer-body answer e =
+        e ∙ two-kinds (λ k. integerAfter way s k arg next budget ≡ atomAfter way s k arg next budget scratch) refl refl
+        kind h
+
+    pub integer-scratch : scratch ≡ scratchAfter way s kind arg next budget scratch
+    integer-scratch = two-kinds (λ k. scratch ≡ scratchAfter way s k arg next budget scratch) refl refl kind h
+
+pub ruleset body-ends = (body-of, scratch-of, header-alone, integer-kind, integer-body, integer-scratch, needs)
+
+-- an atom, by what its header answers
+module _ (way : Way) (s : List ℕ) (place : ℕ) (got : HeaderAnswer) (g : got ≡ headerRead way s place) where
+  module _ (budget : Budget) (scratch : List ℕ) (next : Place) where
+    module _ (kind : Kind) (arg : ℕ) (e : got ≡ H.Read next kind arg) where
+      pub header-read : (answer : AtomAnswer) → answer ≡ atomAfter way s kind arg next budget scratch →
+          answer ≡ atomRead way s place budget scratch
+      unfolding atomRead
+      header-read answer a = cc
+
+      pub header-read-scratch : (after : List ℕ) → after ≡ scratchAfter way s kind arg next budget scratch →
+          after ≡ atomScratch way s place budget scratch
+      unfolding atomScratch
+      header-read-scratch after a = cc
+
+    module _ (r : Refusal) (e : got ≡ H.Refused next r) where
+      pub header-refused : A.Refused next budget r ≡ atomRead way s place budget scratch
+      unfolding atomRead
+      header-refused = cc
+
+      pub header-refused-scratch : scratch ≡ atomScratch way s place budget scratch
+      unfolding atomScratch
+      header-refused-scratch = cc
+
+  pub header-within : (next : Place) (kind : Kind) (arg : ℕ) → got ≡ H.Read next kind arg → next .0 ≤ length s
+  header-within next kind arg e =
+      rw (← ap headerPlace (sym g ∙ e)) (header-place way s (startOf s place) (start-within s place) .1)
+
+-- the entry that names no way
+pub unnamed : (way named : Way) (s : List ℕ) (place : ℕ) (budget : Budget) (scratch : List ℕ) (answer : AtomAnswer) →
+    way ≡ named → answer ≡ atomRead way s place budget scratch → answer ≡ atomRead named s place budget scratch
+unnamed way named s place budget scratch answer w e = cc
+
+pub ruleset atom-ends =
+    (header-read, header-read-scratch, header-refused, header-refused-scratch, header-within, unnamed, needs)

@@ -1,6 +1,6 @@
 pub mod Answers
+pub mod Numbers
 pub mod Ends
-pub mod Integral
 pub mod Back
 pub mod Forward
 pub mod Agree

@@ -1,24 +1,21 @@
--- The three counts of a float, and the float of each.
+-- The three counts of a float.
 use mathlib.Core.Path.{_≡_, refl, ap}
 use mathlib.Core.Bool.{Bool, true, false, false≢true}
-use Prim.Native.Nat.{ℕ, _≤_, _<_, _^_}
+use Prim.Native.Nat.{ℕ, _≤_}
 use native.Mathlib.Omega.{arith}
 use lib.Dec.{eqb}
-use lib.Ieee.{Float, binary32, binary64, ofBits}
-use borrow.Author.Tests.{ne-eqb, eqb-true}
-use Rattle.types.specs.declared.Float.the-variants as F
+use borrow.Author.Tests.{eqb-true}
 use Rattle.types.specs.Choice.{pick}
 use Rattle.little.specs.Counts.{listed}
-use Rattle.binary.specs.Formats.{half, single}
-use Rattle.binary.specs.Conversions.{widened}
-use Rattle.float.specs.Floats.{allowedFloat, floatOf}
+use Rattle.float.specs.Floats.{allowedFloat}
 
 pub data Allowed (count : ℕ) : Type 0 where
   two : count ≡ 2 → Allowed count
   four : count ≡ 4 → Allowed count
   eight : count ≡ 8 → Allowed count
 
-listed-case : (c : ℕ) (a b d : Bool) → eqb c 2 ≡ a → eqb c 4 ≡ b → eqb c 8 ≡ d → pick a true (pick b true (pick d true false)) ≡ true → Allowed c
+listed-case : (c : ℕ) (a b d : Bool) → eqb c 2 ≡ a → eqb c 4 ≡ b → eqb c 8 ≡ d →
+    pick a true (pick b true (pick d true false)) ≡ true → Allowed c
 listed-case c true b d p q r h = two (eqb-true c 2 p)
 listed-case c false true d p q r h = four (eqb-true c 4 q)
 listed-case c false false true p q r h = eight (eqb-true c 8 r)
@@ -49,20 +46,3 @@ allowed-last c h p q = go (allowed-is c h)
     go (two e) = absurd (p e)
     go (four e) = absurd (q e)
     go (eight e) = e
-
--- bits that fit a count known by its number
-pub bits-at : (c n b : ℕ) → b < 256 ^ c → c ≡ n → b < 256 ^ n
-bits-at c n b h e = rw e at h
-
--- the float of each count
-pub float-two : (c b v : ℕ) (x : Float) → c ≡ 2 → v ≡ widened half single b → x ≡ ofBits binary32 v → F.F32 x ≡ floatOf c b
-unfolding floatOf
-float-two c b v x e p q = simp (e, q, p)
-
-pub float-four : (c b : ℕ) (x : Float) → c ≡ 4 → x ≡ ofBits binary32 b → F.F32 x ≡ floatOf c b
-unfolding floatOf
-float-four c b x e q = simp (e, q)
-
-pub float-eight : (c b : ℕ) (x : Float) → (c ≡ 2 → ⊥) → (c ≡ 4 → ⊥) → x ≡ ofBits binary64 b → F.F64 x ≡ floatOf c b
-unfolding floatOf
-float-eight c b x p q e = simp (ne-eqb c 2 p, ne-eqb c 4 q, e)

@@ -1,5 +1,6 @@
 pub mod Counts
 pub mod Answers
+pub mod Ends
 pub mod Writes
 pub mod Units
 pub mod Compared

@@ -1,4 +1,4 @@
--- The answers of the integer reader at each of its ends, over the kind and the count.
+-- What the definition of an integer read answers, over the kind and the count: the cases that further laws cite.
 use mathlib.Core.Path.{_≡_}
 use mathlib.Core.Bool.{true, false}
 use mathlib.Core.List.{List}
@@ -11,7 +11,7 @@ use Rattle.types.specs.declared.Kind.the-variants as K
 use Rattle.types.specs.declared.Refusal.the-variants as R
 use Rattle.types.specs.declared.IntegerAnswer.{IntegerAnswer}
 use Rattle.types.specs.declared.IntegerAnswer.the-variants as IA
-use Rattle.types.proofs.Ways.{up-to-within, up-to-filled, up-to-eof}
+use Rattle.types.proofs.Ways.{up-to-within, up-to-filled}
 use Rattle.little.specs.Le.{numberAt}
 use Rattle.integer.specs.Integers.{allowedCount, integerKind, integerOf, integerBody, integerFrom}
 
@@ -22,28 +22,29 @@ module _ (way : Way) (s : List ℕ) (at : ℕ) (kind : Kind) (count : ℕ) where
   eof : IntegerAnswer
   eof = IA.Refused (record { 0 = length s }) R.Eof
 
-  -- the bytes are there; they are not, in filled reading, and in exact reading
-  pub body-whole : at + count ≤ length s → integerBody way s at kind count ≡ IA.Read (record { 0 = at + count }) (integerOf kind count (numberAt count s at))
+  -- the bytes are there; they are not, in filled reading
+  pub body-whole : at + count ≤ length s →
+      integerBody way s at kind count ≡ IA.Read (record { 0 = at + count }) (integerOf kind count (numberAt count s at))
   unfolding integerBody found eof
   body-whole h = up-to-within way (length s) (at + count) found eof h
 
-  pub body-filled : length s < at + count → exact way ≡ false → integerBody way s at kind count ≡ IA.Read (record { 0 = length s }) (integerOf kind count (numberAt count s at))
+  pub body-filled : length s < at + count → exact way ≡ false →
+      integerBody way s at kind count ≡ IA.Read (record { 0 = length s }) (integerOf kind count (numberAt count s at))
   unfolding integerBody found eof
   body-filled h x = up-to-filled way (length s) (at + count) found eof h x
 
-  pub body-eof : length s < at + count → exact way ≡ true → integerBody way s at kind count ≡ IA.Refused (record { 0 = length s }) R.Eof
-  unfolding integerBody found eof
-  body-eof h x = up-to-eof way (length s) (at + count) found eof h x
-
   -- refusal 7, then refusal 6, then the bytes
-  pub from-other-kind : integerKind kind ≡ false → integerFrom way s at kind count ≡ IA.Refused (record { 0 = at }) (R.UnexpectedKind kind K.Int)
+  pub from-other-kind : integerKind kind ≡ false →
+      integerFrom way s at kind count ≡ IA.Refused (record { 0 = at }) (R.UnexpectedKind kind K.Int)
   unfolding integerFrom
   from-other-kind k = simp k
 
-  pub from-other-count : integerKind kind ≡ true → allowedCount count ≡ false → integerFrom way s at kind count ≡ IA.Refused (record { 0 = at }) (R.UnsupportedByteCount kind count)
+  pub from-other-count : integerKind kind ≡ true → allowedCount count ≡ false →
+      integerFrom way s at kind count ≡ IA.Refused (record { 0 = at }) (R.UnsupportedByteCount kind count)
   unfolding integerFrom
   from-other-count k a = simp (k, a)
 
-  pub from-body : integerKind kind ≡ true → allowedCount count ≡ true → integerFrom way s at kind count ≡ integerBody way s at kind count
+  pub from-body : integerKind kind ≡ true → allowedCount count ≡ true →
+      integerFrom way s at kind count ≡ integerBody way s at kind count
   unfolding integerFrom
   from-body k a = simp (k, a)

@@ -1,6 +1,5 @@
-pub mod Variants
 pub mod Arms
+pub mod Ends
 pub mod Answers
 pub mod Counts
 pub mod RoundTrip
-pub mod Places

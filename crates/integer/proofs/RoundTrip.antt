@@ -22,58 +22,37 @@ use Rattle.little.proofs.Width.{to-length}
 use Rattle.little.proofs.At.{number-reads}
 use Rattle.little.proofs.Two.{twos-bits, machine-twos}
 use Rattle.integer.specs.Integers.{allowedCount, intOf, uintOf, integerOf, integerBody}
-use Rattle.integer.proofs.Variants.{int-1, int-2, int-3, int-4, int-6, int-8, int-16, uint-1, uint-2, uint-3, uint-4, uint-6, uint-8, uint-16}
 use Rattle.integer.proofs.Counts.{each}
 use Rattle.integer.proofs.Answers.{body-whole}
 
 -- the value of what is read: two's complement, and the number itself
 pub int-value : (n : ℕ) → allowedCount n ≡ true → (v : ℕ) → value (intOf n v) ≡ twos n v
+unfolding intOf
 int-value n h v =
-    each
-    (λ m. value (intOf m v) ≡ twos m v)
-    counts (
-      ap value (int-1 v),
-      (
-        ap value (int-2 v),
-        (
-          ap value (int-3 v),
-          (
-            ap value (int-4 v),
-            (ap value (int-6 v), (ap value (int-8 v), (ap value (int-16 v) ∙ ap (toZ w128) (joined-words v) ∙ machine-twos v, tt))),
-          ),
-        ),
-      ),
-    )
-    n
-    h
+    let wide = ap (toZ w128) (joined-words v) ∙ machine-twos v in
+    each (λ m. value (intOf m v) ≡ twos m v) counts (refl, (refl, (refl, (refl, (refl, (refl, (wide, tt))))))) n h
 
 pub uint-value : (n : ℕ) → allowedCount n ≡ true → (v : ℕ) → value (uintOf n v) ≡ pos v
+unfolding uintOf
 uint-value n h v =
-    each
-    (λ m. value (uintOf m v) ≡ pos v)
-    counts (
-      ap value (uint-1 v),
-      (
-        ap value (uint-2 v),
-        (
-          ap value (uint-3 v),
-          (
-            ap value (uint-4 v),
-            (ap value (uint-6 v), (ap value (uint-8 v), (ap value (uint-16 v) ∙ ap pos (joined-words v), tt))),
-          ),
-        ),
-      ),
-    )
-    n
-    h
+    let wide = ap pos (joined-words v) in
+    each (λ m. value (uintOf m v) ≡ pos v) counts (refl, (refl, (refl, (refl, (refl, (refl, (wide, tt))))))) n h
 
 -- a held value comes back
 pub int-value-back : (n : ℕ) (z : ℤ) → allowedCount n ≡ true → holdsS n z ≡ true → value (intOf n (twosBits n z)) ≡ z
 int-value-back n z h held = int-value n h (twosBits n z) ∙ twos-bits n z held
 
 -- the bytes of a number that they hold
-pub body-back : (way : Way) (kind : Kind) (n bits : ℕ) (before after s : List ℕ) → s ≡ before ++ (toLE n bits ++ after) → bits < 256 ^ n → integerBody way s (length before) kind n ≡ IA.Read (record { 0 = length before + n }) (integerOf kind n bits)
+pub body-back : (way : Way) (kind : Kind) (n bits : ℕ) (before after s : List ℕ) →
+    s ≡ before ++ (toLE n bits ++ after) → bits < 256 ^ n →
+    integerBody way s (length before) kind n ≡ IA.Read (record { 0 = length before + n }) (integerOf kind n bits)
 body-back way kind n bits before after s e h =
-    let long : length s ≡ length before + (n + length after) = ap length e ∙ length-append before (toLE n bits ++ after) ∙ ap (λ (k : ℕ). length before + k) (length-append (toLE n bits) after ∙ ap (λ (k : ℕ). k + length after) (to-length n bits)) in
-    let number : numberAt n s (length before) ≡ bits = number-reads n bits s (length before) before after e refl ∙ mod-eq-of-lt h in
-    body-whole way s (length before) kind n (omega arith) ∙ ap (λ (v : ℕ). IA.Read (record { 0 = length before + n }) (integerOf kind n v)) number
+    let written : List ℕ = toLE n bits in
+    let wide : length written ≡ n = to-length n bits in
+    let follows : length (written ++ after) ≡ length written + length after = length-append written after in
+    let long : length s ≡ length before + length (written ++ after) =
+    ap length e ∙ length-append before (written ++ after) in
+    let number : numberAt n s (length before) ≡ bits =
+    number-reads n bits s (length before) before after e refl ∙ mod-eq-of-lt h in
+    body-whole way s (length before) kind n (omega arith)
+    ∙ ap (λ (v : ℕ). IA.Read (record { 0 = length before + n }) (integerOf kind n v)) number

@@ -3,6 +3,9 @@ use Rattle.integer.proofs.Arms.{arms}
 use Rattle.integer.proofs.filled_uint.Statement.{statement}
 use Rattle.integer.proofs.filled_uint.Tie as tie
 
+returns-2 : tie.Need-returns-2
+returns-2 c = search arms
+
 pub filled-uint-spec : {M : Type 1} → statement M
 filled-uint-spec =
     tie.close
@@ -12,7 +15,7 @@ filled-uint-spec =
     (λ c. search arms)
     (λ c κs. search arms)
     (λ c. search arms)
-    (λ c. search arms)
+    returns-2
     (λ c κs. search arms)
     (λ c. search arms)
     (λ c. search arms)

@@ -3,6 +3,9 @@ use Rattle.integer.proofs.Arms.{arms}
 use Rattle.integer.proofs.uint_at.Statement.{statement}
 use Rattle.integer.proofs.uint_at.Tie as tie
 
+returns-3 : tie.Need-returns-3
+returns-3 c = search arms
+
 pub uint-at-spec : {M : Type 1} → statement M
 uint-at-spec =
     tie.close
@@ -15,7 +18,7 @@ uint-at-spec =
     (λ c. search arms)
     (λ c κs. search arms)
     (λ c. search arms)
-    (λ c. search arms)
+    returns-3
     (λ c κs. search arms)
     (λ c. search arms)
     (λ c. search arms)
