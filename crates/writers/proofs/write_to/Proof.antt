@@ -160,6 +160,7 @@ returns-10 c =
     wrote (c .before .before .write-u128 .result) (c .before .before .write-u128 .last .0) (now (a .out)) (valueBytes (a .integer)) _ (sym (ap valueBytes (c .before .before .before .before .before .integer10 .given .1))) (c .before .before .write-u128 .ensures)
 
 pub write-to-spec : {M : Type 1} → statement M
+unfolding valueBytes
 write-to-spec =
     tie.close
     (tie.spec
