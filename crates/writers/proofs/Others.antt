@@ -39,6 +39,7 @@ pub of-variant : (integer variant : Integer) (bytes : List ℕ) → integer ≡ 
 of-variant integer variant bytes e b = b ∙ ap valueBytes (sym e)
 
 pub ruleset special-ends = (of-code, of-true, of-false, writes, needs)
+
 pub ruleset variant-ends = (of-variant, given-same, writes, needs)
 
 -- a string, whose header takes so many bytes
