@@ -1,4 +1,5 @@
--- A string copied in parts that may overlap: each byte goes where the source has it, so that a second copy changes nothing.
+-- A string copied in parts that may overlap: each byte goes where the source has it, so that a second copy changes
+-- nothing.
 use borrow.Author.Needs.{needs}
 use mathlib.Core.Path.{_≡_, refl, _∙_, sym, ap, subst}
 use mathlib.Core.Bool.{Bool, true, false}
@@ -43,12 +44,9 @@ module _ (s d : List ℕ) (most : ℕ) (room : length s ≤ length d) (within : 
       let k = leb-false (i + 1) (f .count) e in
       let g = f .enough in
       let c : f .count ≡ i = omega arith in
-      record {
-        count = i + 1;
-        enough = omega arith;
-        inside = omega arith;
-        same = ap (λ (l : List ℕ). set l i (getD s i 0)) (f .same ∙ ap (λ (n : ℕ). take n s ++ drop n d) c) ∙ copy-more d s i (omega arith) room;
-      }
+      let is : x ≡ take i s ++ drop i d = rw (← c) (f .same) in
+      let more = ap (λ (l : List ℕ). set l i (getD s i 0)) is ∙ copy-more d s i (omega arith) room in
+      record { count = i + 1; enough = omega arith; inside = omega arith; same = more }
 
   byte : (i j : ℕ) (x : List ℕ) → j ≡ i + 1 → i < most → Front s d i most x → Front s d j most (set x i (getD s i 0))
   byte i j x e h f =
@@ -70,11 +68,11 @@ all s d x f =
 pub in-four : (s x : List ℕ) (i j : ℕ) → i + 4 ≤ length s → length s ≤ length x → j < 4 → i + j < length x
 in-four s x i j h k l = omega arith
 
-abbrev pub fourSet : List ℕ → List ℕ → ℕ → List ℕ
-fourSet s x i =
-    set (set (set (set x i (getD s i 0)) (i + 1) (getD s (i + 1) 0)) (i + 2) (getD s (i + 2) 0)) (i + 3) (getD s (i + 3) 0)
+abbrev pub set-from : List ℕ → List ℕ → ℕ → List ℕ
+set-from s x i = set x i (getD s i 0)
 
-pub four-copied : (s x : List ℕ) (i : ℕ) → Copied s i (i + 4) x (fourSet s x i)
+pub four-copied : (s x : List ℕ) (i : ℕ) → 
+    Copied s i (i + 4) x (set-from s (set-from s (set-from s (set-from s x i) (i + 1)) (i + 2)) (i + 3))
 four-copied s x i = λ old most room within to f.
     let one = byte s old most room within i (i + 1) x refl (omega arith) f in
     let two = byte s old most room within (i + 1) (i + 2) _ (omega arith) (omega arith) one in
@@ -181,7 +179,7 @@ sixteen-copied s x zeros held y i e filled h room z =
 
 pub ruleset sixteen-ends = (sixteen-copied, needs)
 
--- The rest of a string from a place on: the bytes up to i are copied, and the last sixteen go over those that are there.
+-- The rest of a string from a place on: the bytes up to i are copied; the last sixteen go over those that are there.
 pub record Rest (s old : List ℕ) (from : ℕ) (x : List ℕ) (i : ℕ) : Type 0 where
   pub within : i ≤ length s
   pub long : length x ≡ length old
@@ -202,8 +200,9 @@ module _ (s old : List ℕ) (from : ℕ) (x : List ℕ) (i : ℕ) (inv : Rest s 
       Copied s from (length s) old y
   rest-ends h k more = λ d most room within to f.
       let w = inv .within in
-      let there = fewer s d most room within i (length s - 16) x (omega arith) (inv .copied d most room within (omega arith) f) in
-      fewer s d most room within (length s - 16 + 16) (length s) y (omega arith) (more d most room within (omega arith) there)
+      let less = fewer s d most room within in
+      let there = less i (length s - 16) x (omega arith) (inv .copied d most room within (omega arith) f) in
+      less (length s - 16 + 16) (length s) y (omega arith) (more d most room within (omega arith) there)
 
 pub ruleset rest-laws = (rest-begins, rest-turn, rest-ends, needs)
 
@@ -224,7 +223,8 @@ module _ (s old x : List ℕ) (i : ℕ) (inv : Blocks s old x i) (room : length 
         rw (part-length s i (i + 128 - i) (omega arith), part-length x i (i + 128 - i) (omega arith)) (omega arith)
 
     pub blocks-turn : (y : List ℕ) →
-        y ≡ take (i + 128 - i) (drop i s) ++ drop (length (take (i + 128 - i) (drop i s))) (take (i + 128 - i) (drop i x)) →
+        y ≡ take (i + 128 - i) (drop i s)
+        ++ drop (length (take (i + 128 - i) (drop i s))) (take (i + 128 - i) (drop i x)) →
         Blocks s old (take i x ++ (y ++ drop (i + 128 - i) (drop i x))) (i + 128)
     blocks-turn y filled =
         let c : i + (i + 128 - i) ≡ i + 128 = omega arith in

@@ -1,5 +1,5 @@
--- The ends of the writers of numbers: the value's size as it was tested, what the writer that was called wrote, and that it is
--- the value's bytes.
+-- The ends of the writers of numbers: the value's size as it was tested, what the writer that was called wrote, and
+-- that it is the value's bytes.
 use mathlib.Core.Path.{_≡_, _∙_, ap}
 use mathlib.Core.Bool.{true}
 use mathlib.Core.List.{_∷_}
@@ -18,7 +18,8 @@ use Rattle.little.specs.Counts.{holdsS}
 use Rattle.little.proofs.Two.{mag-held, mag-not-held}
 use Rattle.writers.specs.Bytes.{signedBytes}
 use Rattle.writers.proofs.Wrote.{writes}
-use Rattle.writers.proofs.Levels.{Count, smaller, signed-level, unsigned-level, unsigned-first, unsigned-held, unsigned-not-held}
+use Rattle.writers.proofs.Levels.{Count, smaller, signed-level, unsigned-level, unsigned-first}
+use Rattle.writers.proofs.Levels.{unsigned-held, unsigned-not-held}
 
 -- a test of the magnitude is one of the value
 module _ (z : ℤ) (bound size : ℕ) where
@@ -30,9 +31,13 @@ module _ (z : ℤ) (bound size : ℕ) where
 
 -- A signed value of width w is handed on as the machine has it, `toZ w (ofZ w z)`, and is still the value.
 module _ (w : Width) (z : ℤ) (f : SFits w z) where
+  narrowed : (u : Width) → SFits u z → toZ u (ofZ u (toZ w (ofZ w z))) ≡ z
+  narrowed u g = ap (λ (x : ℤ). toZ u (ofZ u x)) (toZ-ofZ w z f) ∙ toZ-ofZ u z g
+
   -- its magnitude, taken at 64 bits
-  pub magnitude-widened : (size : ℕ) → T (leb (hbits w) 63) → size ≡ mag (toZ w64 (ofZ w64 (toZ w (ofZ w z)))) → size ≡ mag z
-  magnitude-widened size t m = m ∙ ap mag (ap (λ (x : ℤ). toZ w64 (ofZ w64 x)) (toZ-ofZ w z f) ∙ toZ-ofZ w64 z (sfits-widen t f))
+  pub magnitude-widened : (size : ℕ) → T (leb (hbits w) 63) → size ≡ mag (toZ w64 (ofZ w64 (toZ w (ofZ w z)))) →
+      size ≡ mag z
+  magnitude-widened size t m = m ∙ ap mag (narrowed w64 (sfits-widen t f))
 
   pub magnitude-same : (size : ℕ) → size ≡ mag (toZ w (ofZ w z)) → size ≡ mag z
   magnitude-same size m = m ∙ ap mag (toZ-ofZ w z f)
@@ -46,7 +51,7 @@ module _ (w : Width) (z : ℤ) (f : SFits w z) where
 
   -- the writer that was called was given the value, at a narrower width or at this one
   pub given-narrower : (u : Width) → mag z < 2 ^ hbits u → signedBytes (toZ u (ofZ u (toZ w (ofZ w z)))) ≡ signedBytes z
-  given-narrower u h = ap (λ (x : ℤ). signedBytes (toZ u (ofZ u x))) (toZ-ofZ w z f) ∙ ap signedBytes (toZ-ofZ u z (record { sfits = h }))
+  given-narrower u h = ap signedBytes (narrowed u (record { sfits = h }))
 
   pub given-same : signedBytes (toZ w (ofZ w z)) ≡ signedBytes z
   given-same = ap signedBytes (toZ-ofZ w z f)

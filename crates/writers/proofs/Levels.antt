@@ -1,5 +1,5 @@
--- A writer's level, over the count of its bytes: where the next smaller count does not hold the value and this one does, this
--- one is the shortest, and what is stored is the value's bytes.
+-- A writer's level, over the count of its bytes: where the next smaller count does not hold the value and this one
+-- does, it is the shortest, and what is stored is the value's bytes.
 use mathlib.Core.Path.{_≡_, refl, _∙_, sym, ap}
 use mathlib.Core.Bool.{Bool, true, false}
 use mathlib.Core.List.{List, [], _∷_, _++_}
@@ -73,9 +73,13 @@ number-bytes kind n bits first count e =
     rw (e, bytes-one kind (n - 1) (omega arith))
 
 module _ (n : ℕ) (count : Count n) where
-  shortest : (p : ℕ → Bool) → ((d : ℕ) → d ≤ smaller n → p d ≡ false) → p n ≡ true → firstThat p counts ≡ n
+  -- a test that n passes and the count before it does not, and that whatever is above a number that passes does too
+  shortest : (p : ℕ → Bool) → ((d e : ℕ) → d ≤ e → p d ≡ true → p e ≡ true) → p (smaller n) ≡ false → p n ≡ true →
+      firstThat p counts ≡ n
   unfolding firstThat
-  shortest p none h = first-above p (smaller n) none counts ∙ ap (firstThat p) (count .0) ∙ simp h
+  shortest p more past h =
+      let none = first-above p (smaller n) (λ d l. not-both (p d) (λ y. sym (more d (smaller n) l y) ∙ past)) counts in
+      none ∙ ap (firstThat p) (count .0) ∙ simp h
 
   -- what is stored: the header byte, and the n lowest bytes of what w bytes hold for the value
   pub signed-level : (w : ℕ) (z : ℤ) (bits first : ℕ) → bits ≡ twosBits w z → 256 ^ smaller n / 2 ≤ mag z →
@@ -84,16 +88,17 @@ module _ (n : ℕ) (count : Count n) where
   signed-level w z bits first b past h le e =
       let held = mag-held n z h in
       let short : shortestS z ≡ n =
-      shortest (λ d. holdsS d z) (λ d l. not-both (holdsS d z) (λ y. sym (holdsS-more d (smaller n) z l y) ∙ mag-not-held (smaller n) z past)) held in
-      ap (λ (l : List ℕ). first ∷ l) (ap (toLE n) b ∙ low-bytes n w z le held) ∙ number-bytes K.Int n (twosBits n z) first count e ∙ ap (λ (c : ℕ). integerBytes K.Int c (twosBits c z)) (sym short)
+      shortest (λ d. holdsS d z) (λ d e. holdsS-more d e z) (mag-not-held (smaller n) z past) held in
+      let low : toLE n bits ≡ toLE n (twosBits n z) = ap (toLE n) b ∙ low-bytes n w z le held in
+      rw (short, low) (number-bytes K.Int n (twosBits n z) first count e)
 
   pub unsigned-level : (k first : ℕ) → 256 ^ smaller n ≤ k → k < 256 ^ n → first ≡ 64 + (n - 1) →
       first ∷ toLE n k ≡ unsignedBytes k
   unfolding unsignedBytes shortestU
   unsigned-level k first past h e =
-      let short : shortestU k ≡ n =
-      shortest (λ d. holdsU d k) (λ d l. not-both (holdsU d k) (λ y. sym (holdsU-more d (smaller n) k l y) ∙ unsigned-not-held (smaller n) k past)) (unsigned-held n k h) in
-      number-bytes K.UInt n k first count e ∙ ap (λ (c : ℕ). integerBytes K.UInt c k) (sym short)
+      let not-held = unsigned-not-held (smaller n) k past in
+      let short : shortestU k ≡ n = shortest (λ d. holdsU d k) (λ d e. holdsU-more d e k) not-held (unsigned-held n k h) in
+      rw short (number-bytes K.UInt n k first count e)
 
 -- the smallest level has no smaller one: 0 bytes hold 0, and are no count
 pub unsigned-first : (k : ℕ) → k < 256 ^ 1 → 64 ∷ toLE 1 k ≡ unsignedBytes k

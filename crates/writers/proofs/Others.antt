@@ -23,7 +23,8 @@ use Rattle.writers.proofs.Wrote.{writes}
 use Rattle.writers.proofs.Ends.{given-same}
 
 -- the header of a special's code
-pub of-code : (special : Special) (code : ℕ) → code ≡ specialCode special → headerBytes K.Special code ≡ specialBytes special
+pub of-code : (special : Special) (code : ℕ) → code ≡ specialCode special →
+    headerBytes K.Special code ≡ specialBytes special
 of-code special code e = ap (headerBytes K.Special) e
 
 -- the special of a truth value that was tested
@@ -51,7 +52,8 @@ module _ (value old : List ℕ) (head : ℕ) (h : (kind : Kind) → head ≡ len
   module _ (short : length old < head + length value) where
     pub string-refused : (why : Refusal) → why ≡ noRoom (head + length value) →
         W.Refused why ≡ writtenAnswer (bytesBytes value) old
-    string-refused why e = ap W.Refused (e ∙ ap noRoom whole) ∙ sym (answer-short (bytesBytes value) old (rw (← whole) short))
+    string-refused why e =
+        ap W.Refused (e ∙ ap noRoom whole) ∙ sym (answer-short (bytesBytes value) old (rw (← whole) short))
 
     pub string-kept : old ≡ writtenContent (bytesBytes value) old
     string-kept = sym (content-short (bytesBytes value) old (rw (← whole) short))
@@ -61,14 +63,15 @@ module _ (value old : List ℕ) (head : ℕ) (h : (kind : Kind) → head ≡ len
     pub string-counted : W.Count (head + length value) ≡ writtenAnswer (bytesBytes value) old
     string-counted = ap W.Count whole ∙ sym (answer-room (bytesBytes value) old (rw (← whole) room))
 
-    pub string-filled : (headed-by part : List ℕ) → headed-by ≡ writtenContent (headerBytes K.Bytes (length value)) old →
-        part ≡ value ++ drop (length value) (take (length headed-by - head) (drop head headed-by)) →
-        take head headed-by ++ (part ++ drop (length headed-by - head) (drop head headed-by)) ≡ writtenContent (bytesBytes value) old
-    string-filled headed-by part is filled =
+    pub string-filled : (begun part : List ℕ) → begun ≡ writtenContent (headerBytes K.Bytes (length value)) old →
+        part ≡ value ++ drop (length value) (take (length begun - head) (drop head begun)) →
+        take head begun ++ (part ++ drop (length begun - head) (drop head begun))
+        ≡ writtenContent (bytesBytes value) old
+    string-filled begun part is filled =
         let header : List ℕ = headerBytes K.Bytes (length value) in
         let e : head ≡ length header = h K.Bytes in
-        let front : headed-by ≡ header ++ drop (length header) old = is ∙ content-room header old (omega arith) in
-        rw e (headed header value old headed-by part (rw e at room) front (rw e at filled)
+        let front : begun ≡ header ++ drop (length header) old = is ∙ content-room header old (omega arith) in
+        rw e (headed header value old begun part (rw e at room) front (rw e at filled)
         ∙ sym (content-room (header ++ value) old (rw (← whole) room)))
 
 pub ruleset string-ends = (string-refused, string-kept, string-counted, string-filled, needs)

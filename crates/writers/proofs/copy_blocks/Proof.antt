@@ -1,4 +1,4 @@
--- `writers::copy_blocks` meets its contract. The invariant: the first i bytes are the source's, and the rest as they were.
+-- `writers::copy_blocks` meets its contract: the blocks, and then the rest. The bytes left are the measure.
 use Prim.Native.Nat.{_-_}
 use lib.ListN.{length}
 use Rattle.writers.proofs.Copies.{Blocks, block-ends}

@@ -1,5 +1,5 @@
--- `writers::copy_rest` meets its contract. The invariant: the bytes from the place on up to i are copied; the last sixteen
--- go over those that are there already.
+-- `writers::copy_rest` meets its contract: sixteen by sixteen, the last sixteen over those that are there already. The
+-- bytes left are the measure.
 use Prim.Native.Nat.{_-_}
 use lib.ListN.{length}
 use Rattle.writers.proofs.Copies.{Rest, rest-laws}

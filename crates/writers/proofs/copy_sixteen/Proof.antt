@@ -1,5 +1,5 @@
--- `writers::copy_sixteen` meets its contract: the block holds the source's sixteen bytes, and they go where the source has
--- them.
+-- `writers::copy_sixteen` meets its contract: the block holds the source's sixteen bytes, and they go where the source
+-- has them.
 use Rattle.writers.proofs.Copies.{sixteen-ends}
 use Rattle.writers.proofs.copy_sixteen.Statement.{statement}
 use Rattle.writers.proofs.copy_sixteen.Tie as tie
