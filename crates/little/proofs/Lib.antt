@@ -4,4 +4,5 @@ pub mod Two
 pub mod Signs
 pub mod Shortest
 pub mod Stores
+pub mod Puts
 pub mod Words

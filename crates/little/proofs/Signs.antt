@@ -1,8 +1,8 @@
--- A signed value of a machine's width whose sign was tested by `0 <= v`: it is a number as it is, or its complement is, which
--- the machine has as `!v`. Over the width, and over the count of bytes that hold it.
+-- Signed values of a machine's width and what n bytes hold for them, over both. A value whose sign was tested by `0 <= v`
+-- is a number as it is, or its complement is, which the machine has as `!v`; a number below the half is a value as it is.
 use mathlib.Core.Path.{_≡_, refl, _∙_, sym, ap}
 use mathlib.Core.Bool.{true, false, false≢true}
-use Prim.Native.Nat.{ℕ, suc, _-_, _^_, _≤_, _<_}
+use Prim.Native.Nat.{ℕ, suc, _-_, _/_, _^_, _≤_, _<_}
 use native.Mathlib.Omega.{arith}
 use native.Mathlib.Nat.{lt-of-lt-of-le}
 use borrow.Author.Needs.{needs}
@@ -12,11 +12,12 @@ use lib.IntN.{ℤ, pos, negsuc, natAbs}
 use lib.Signed.{leZ, nonNeg, mag}
 use mir.Syntax.{Width}
 use mir.Val.{Fits, SFits, toZ, ofZ, bits, hbits}
-use mir.ValLaws.{toZ-pos, toZ-ofZ, half-full}
-use Rattle.little.specs.Twos.{twosBits}
+use mir.ValLaws.{toZ-pos, toZ-neg, toZ-ofZ, half-full}
+use Rattle.little.specs.Twos.{twos, twosBits}
 use Rattle.little.proofs.Width.{byte-pow-pos}
+use Rattle.little.proofs.Two.{even, twos-low, twos-high}
 
--- not negative: the value
+-- a value: not negative, itself
 module _ (w : Width) where
   as-magnitude : (z : ℤ) → SFits w z → leZ (pos 0) (toZ w (ofZ w z)) ≡ true → toZ w (ofZ w z) ≡ pos (mag z)
   as-magnitude (pos k) f h = toZ-ofZ w (pos k) f
@@ -75,7 +76,8 @@ module _ (w : Width) (z : ℤ) (f : SFits w z) where
     pub complement-magnitude : natAbs (toZ w (2 ^ bits w - 1 - ofZ w z)) ≡ mag z
     complement-magnitude = ap natAbs (as-complement w z f h)
 
-    pub complement-room : (all : ℕ) → T (leb (2 ^ hbits w) (suc all)) → natAbs (toZ w (2 ^ bits w - 1 - ofZ w z)) ≤ all
+    pub complement-room : (all : ℕ) → T (leb (2 ^ hbits w) (suc all)) →
+        natAbs (toZ w (2 ^ bits w - 1 - ofZ w z)) ≤ all
     complement-room all t =
         let m : mag z < 2 ^ hbits w = f .sfits in
         let l : 2 ^ hbits w ≤ suc all = leb→le (2 ^ hbits w) (suc all) t in
@@ -87,6 +89,25 @@ module _ (w : Width) (z : ℤ) (f : SFits w z) where
 
       pub less-complement-below : all - natAbs (toZ w (2 ^ bits w - 1 - ofZ w z)) < 256 ^ n
       less-complement-below = rw e (omega (arith, byte-pow-pos n))
+
+less-one : (a b : ℕ) → a - 1 - b ≡ a - suc b
+less-one a b = omega arith
+
+-- n bytes that hold v: below the half the value is v, and from the half on the complement of what v is less than all ones
+module _ (w : Width) (n v : ℕ) (0<n : 0 < n) (t : T (leb (256 ^ n / 2) (2 ^ hbits w))) where
+  most : 256 ^ n / 2 ≤ 2 ^ hbits w
+  most = leb→le (256 ^ n / 2) (2 ^ hbits w) t
+
+  pub below-half : v < 256 ^ n / 2 → toZ w v ≡ twos n v
+  below-half h = toZ-pos w v (lt-of-lt-of-le h most) ∙ sym (twos-low n v h)
+
+  pub from-half : (full all : ℕ) → full ≡ 2 ^ bits w - 1 → all ≡ 256 ^ n - 1 → 256 ^ n / 2 ≤ v →
+      toZ w (full - (all - v)) ≡ twos n v
+  from-half full all f a h =
+      let fits : 256 ^ n / 2 ≤ 2 ^ hbits w = most in
+      let small : 256 ^ n - 1 - v < 2 ^ hbits w = omega (arith, even n 0<n, byte-pow-pos n) in
+      let complement = ap (toZ w) (less-one (2 ^ bits w) (256 ^ n - 1 - v)) ∙ toZ-neg w (256 ^ n - 1 - v) small in
+      rw (f, a) (complement ∙ sym (twos-high n v h))
 
 pub ruleset sign-ends = (
   not-negative,
@@ -100,5 +121,7 @@ pub ruleset sign-ends = (
   complement-room,
   less-complement,
   less-complement-below,
+  below-half,
+  from-half,
   needs,
 )

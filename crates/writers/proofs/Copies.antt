@@ -71,7 +71,7 @@ in-four s x i j h k l = omega arith
 abbrev pub set-from : List ℕ → List ℕ → ℕ → List ℕ
 set-from s x i = set x i (getD s i 0)
 
-pub four-copied : (s x : List ℕ) (i : ℕ) → 
+pub four-copied : (s x : List ℕ) (i : ℕ) →
     Copied s i (i + 4) x (set-from s (set-from s (set-from s (set-from s x i) (i + 1)) (i + 2)) (i + 3))
 four-copied s x i = λ old most room within to f.
     let one = byte s old most room within i (i + 1) x refl (omega arith) f in

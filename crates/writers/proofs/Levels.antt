@@ -97,7 +97,8 @@ module _ (n : ℕ) (count : Count n) where
   unfolding unsignedBytes shortestU
   unsigned-level k first past h e =
       let not-held = unsigned-not-held (smaller n) k past in
-      let short : shortestU k ≡ n = shortest (λ d. holdsU d k) (λ d e. holdsU-more d e k) not-held (unsigned-held n k h) in
+      let held = unsigned-held n k h in
+      let short : shortestU k ≡ n = shortest (λ d. holdsU d k) (λ d e. holdsU-more d e k) not-held held in
       rw short (number-bytes K.UInt n k first count e)
 
 -- the smallest level has no smaller one: 0 bytes hold 0, and are no count
