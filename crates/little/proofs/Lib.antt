@@ -4,5 +4,4 @@ pub mod Two
 pub mod Signs
 pub mod Shortest
 pub mod Stores
-pub mod Puts
 pub mod Words

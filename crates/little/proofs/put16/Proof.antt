@@ -2,7 +2,7 @@
 -- after it make the one write of both.
 use native.Mathlib.Omega.{arith}
 use lib.ListN.{length-set}
-use Rattle.little.proofs.Puts.{store-ends}
+use Rattle.little.proofs.Stores.{store-ends}
 use Rattle.little.proofs.put16.Statement.{statement}
 use Rattle.little.proofs.put16.Tie as tie
 

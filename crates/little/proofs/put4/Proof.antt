@@ -1,5 +1,5 @@
 -- `little::put4` meets its contract: the stores are one write of the header byte and the bytes, each by its quotient.
-use Rattle.little.proofs.Puts.{store-ends}
+use Rattle.little.proofs.Stores.{store-ends}
 use Rattle.little.proofs.put4.Statement.{statement}
 use Rattle.little.proofs.put4.Tie as tie
 

@@ -1,7 +1,7 @@
 -- `little::put6` meets its contract: the stores are one write of the header byte and the bytes, each by its quotient.
 use native.Mathlib.Omega.{arith}
 use lib.ListN.{length-set}
-use Rattle.little.proofs.Puts.{store-ends}
+use Rattle.little.proofs.Stores.{store-ends}
 use Rattle.little.proofs.put6.Statement.{statement}
 use Rattle.little.proofs.put6.Tie as tie
 
