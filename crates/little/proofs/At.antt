@@ -1,5 +1,5 @@
--- The number of the bytes at a place, over the byte count: byte by byte, in two parts, and where its bytes stand. Then the
--- ends of the functions that read it.
+-- The number of the bytes at a place, over the byte count: byte by byte, in two parts, and where its bytes stand. Then
+-- the ends of the functions that read it.
 use mathlib.Core.Path.{_≡_, refl, _∙_, sym, ap}
 use mathlib.Core.Bool.{Bool, true, false}
 use mathlib.Core.List.{List, _++_}

@@ -1,5 +1,6 @@
--- Signed values of a machine's width and what n bytes hold for them, over both. A value whose sign was tested by `0 <= v`
--- is a number as it is, or its complement is, which the machine has as `!v`; a number below the half is a value as it is.
+-- Signed values of a machine's width and what n bytes hold for them, over both. A value whose sign was tested by `0 <=
+-- v` is a number as it is, or its complement is, which the machine has as `!v`; a number below the half is a value as
+-- it is.
 use mathlib.Core.Path.{_≡_, refl, _∙_, sym, ap}
 use mathlib.Core.Bool.{true, false, false≢true}
 use Prim.Native.Nat.{ℕ, suc, _-_, _/_, _^_, _≤_, _<_}
@@ -93,7 +94,8 @@ module _ (w : Width) (z : ℤ) (f : SFits w z) where
 less-one : (a b : ℕ) → a - 1 - b ≡ a - suc b
 less-one a b = omega arith
 
--- n bytes that hold v: below the half the value is v, and from the half on the complement of what v is less than all ones
+-- n bytes that hold v: below the half the value is v, and from the half on the complement of what v is less than all
+-- ones
 module _ (w : Width) (n v : ℕ) (0<n : 0 < n) (t : T (leb (256 ^ n / 2) (2 ^ hbits w))) where
   most : 256 ^ n / 2 ≤ 2 ^ hbits w
   most = leb→le (256 ^ n / 2) (2 ^ hbits w) t

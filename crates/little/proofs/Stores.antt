@@ -1,5 +1,5 @@
--- The ends of the straight-line writes: a header byte and then the bytes of a number, or of two words, stored one by one,
--- are the one write of them all.
+-- The ends of the straight-line writes: a header byte and then the bytes of a number, or of two words, stored one by
+-- one, are the one write of them all.
 use mathlib.Core.Path.{_≡_, _∙_, sym, ap}
 use mathlib.Core.List.{List, _∷_, _++_, append-assoc}
 use Prim.Native.Nat.{ℕ, suc, _+_, _-_, _%_, _<_, _≤_}
