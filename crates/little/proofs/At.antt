@@ -1,11 +1,15 @@
--- The number of the bytes at a place, over the byte count: byte by byte, in two parts, and where its bytes stand.
-use mathlib.Core.Path.{_≡_, refl, _∙_, ap}
+-- The number of the bytes at a place, over the byte count: byte by byte, in two parts, and where its bytes stand. Then
+-- the ends of the functions that read it.
+use mathlib.Core.Path.{_≡_, refl, _∙_, sym, ap}
 use mathlib.Core.Bool.{Bool, true, false}
 use mathlib.Core.List.{List, _++_}
 use Prim.Native.Nat.{ℕ, zero, suc, _+_, _-_, _*_, _%_, _^_, _<_, _≤_}
 use native.Mathlib.Omega.{arith}
-use native.Mathlib.Numerals.{add-one}
-use native.Mathlib.Nat.{zero-add, add-zero, suc-add, add-suc, mul-assoc, pow-suc, pow-succ', lt-of-lt-of-le, pow-le-pow-right}
+use native.Mathlib.Nat.{zero-add, add-zero, suc-add, mul-assoc, mul-comm, pow-suc, pow-succ'}
+use native.Mathlib.Nat.{lt-of-lt-of-le, pow-le-pow-right}
+use mir.Syntax.{w64}
+use mir.Val.{Fits}
+use borrow.Author.Needs.{needs}
 use lib.Dec.{ltb, lit<}
 use lib.ListN.{length, drop, getD, drop-of-length-le, length-drop, List·getD-eq-default}
 use lib.Seq.{drop-cons, take-nil, drop-at, take-append-seam, drop-append-le, take-append-le}
@@ -38,18 +42,6 @@ number-add (suc n) m s at =
     let next : suc at + n ≡ at + suc n = omega arith in
     rw (suc-add n m, number-more (n + m) s at, number-more n s at, number-add n m s (suc at), next, pow-succ' 256 n, mul-assoc) (omega arith)
 
--- straight-line code: n bytes from `at + i` on, each weighed by its place
-abbrev pub weighed : ℕ → List ℕ → ℕ → ℕ → ℕ
-weighed zero s at i = 0
-weighed (suc n) s at i = getD s (at + i) 0 + 256 * weighed n s at (suc i)
-
-number-weighed : (n : ℕ) (s : List ℕ) (at i : ℕ) → numberAt n s (at + i) ≡ weighed n s at i
-number-weighed zero s at i = number-none s (at + i)
-number-weighed (suc n) s at i = rw (number-more n s (at + i), ← add-suc at i, number-weighed n s at (suc i))
-
-pub number-bytes : (n : ℕ) (s : List ℕ) (at : ℕ) → numberAt (suc n) s at ≡ getD s at 0 + 256 * weighed n s at 1
-number-bytes n s at = rw (number-more n s at, ← add-one at, number-weighed n s at 1)
-
 -- of bytes, it fits its count
 pub number-lt : (n : ℕ) (s : List ℕ) (at : ℕ) → ((i : ℕ) → getD s i 0 < 256) → numberAt n s at < 256 ^ n
 number-lt zero s at h = rw (number-none s at) (lit< tt)
@@ -74,29 +66,88 @@ number-ahead n s after at h =
     let room : n ≤ length (drop at s) = simp length-drop (omega arith) in
     rw (drop-append-le at s after left, take-append-le n (drop at s) after room)
 
--- a turn of the loop that reads from the highest byte down
-pub turn : (s : List ℕ) (at n i v b : ℕ) → 0 < i → i ≤ n → v ≡ numberAt (n - i) s (at + i) → b ≡ getD s (at + (i - 1)) 0 → v * 256 + b ≡ numberAt (n - (i - 1)) s (at + (i - 1))
-turn s at n i v b p q e k =
-    let a : n - (i - 1) ≡ suc (n - i) = omega arith in
-    let d : at + i ≡ suc (at + (i - 1)) = omega arith in
-    let f : v ≡ numberAt (n - i) s (suc (at + (i - 1))) = e ∙ ap (numberAt (n - i) s) d in
-    rw a (omega (arith, number-more (n - i) s (at + (i - 1))))
+-- The ends of the reads: a byte, or zero past the end.
+module _ (s : List ℕ) (at i : ℕ) where
+  pub past-end : length s ≤ at → 0 ≡ getD s (at + i) 0
+  past-end h = sym (past s (at + i) (omega arith))
 
-pub turn-lt : (v b n i : ℕ) → 0 < i → i ≤ n → v < 256 ^ (n - i) → b < 256 → v * 256 + b < 256 ^ (n - (i - 1))
-turn-lt v b n i p q h l = let a : n - (i - 1) ≡ suc (n - i) = omega arith in rw (a, pow-suc 256 (n - i)) (omega arith)
+  pub past-rest : length s - at ≤ i → 0 ≡ getD s (at + i) 0
+  past-rest h = sym (past s (at + i) (omega arith))
 
--- there is room for one byte more
-pub cap : (v k : ℕ) → k ≤ 7 → v < 256 ^ k → v < 0x100_0000_0000_0000
-cap v k h l = lt-of-lt-of-le l (pow-le-pow-right {n = 256} (lit< tt) {i = k} {j = 7} h)
+-- Straight-line code: one byte, a byte above those that are read, and two numbers.
+module _ (s : List ℕ) (at : ℕ) where
+  pub one-byte : (b : ℕ) → b ≡ getD s at 0 → b ≡ numberAt 1 s at
+  one-byte b e = e ∙ sym (number-more 0 s at ∙ rw (number-none s (suc at)) (omega arith))
 
-pub start : (s : List ℕ) (at n : ℕ) → 0 ≡ numberAt (n - n) s (at + n)
-start s at n = let z : n - n ≡ 0 = omega arith in rw (z, number-none s (at + n))
+  pub two-parts : (n total low high weight : ℕ) → low ≡ numberAt n s at → high ≡ numberAt (total - n) s (at + n) →
+      n ≤ total → weight ≡ 256 ^ n → low + high * weight ≡ numberAt total s at
+  two-parts n total low high weight l h k w =
+      let all : n + (total - n) ≡ total = omega arith in
+      rw (l, h, w) (ap (λ (m : ℕ). numberAt n s at + m) (mul-comm (numberAt (total - n) s (at + n)) (256 ^ n))
+      ∙ sym (number-add n (total - n) s at) ∙ ap (λ (m : ℕ). numberAt m s at) all)
 
-pub start-lt : (n : ℕ) → 0 < 256 ^ (n - n)
-start-lt n = byte-pow-pos (n - n)
+  pub byte-above : (n low b weight : ℕ) → low ≡ numberAt (n - 1) s at → b ≡ getD s (at + (n - 1)) 0 → 0 < n →
+      weight ≡ 256 ^ (n - 1) → low + b * weight ≡ numberAt n s at
+  byte-above n low b weight l e p w =
+      let one : n - (n - 1) ≡ 1 = omega arith in
+      let high : b ≡ numberAt (n - (n - 1)) s (at + (n - 1)) = rw one (e ∙ sym (number-more 0 s (at + (n - 1)) ∙ rw (number-none s (suc (at + (n - 1)))) (omega arith))) in
+      two-parts (n - 1) n low b weight l high (omega arith) w
 
-pub end : (s : List ℕ) (at n i v : ℕ) → i ≡ 0 → v ≡ numberAt (n - i) s (at + i) → v ≡ numberAt n s at
-end s at n i v e h = let a : n - i ≡ n = omega arith in let b : at + i ≡ at = omega arith in rw (a, b) at h
+-- The loop that reads from the highest byte down: v is the number of the bytes from i on.
+pub record Filling (s : List ℕ) (at n v i : ℕ) : Type 0 where
+  pub within : i ≤ n
+  pub below : v < 256 ^ (n - i)
+  pub same : v ≡ numberAt (n - i) s (at + i)
 
-pub end-lt : (n i v : ℕ) → i ≡ 0 → v < 256 ^ (n - i) → v < 256 ^ n
-end-lt n i v e h = let a : n - i ≡ n = omega arith in rw a at h
+pub filling-begins : (s : List ℕ) (at n : ℕ) → Filling s at n 0 n
+filling-begins s at n =
+    let none : n - n ≡ 0 = omega arith in
+    record { within = omega arith; below = byte-pow-pos (n - n); same = rw (none, number-none s (at + n)) }
+
+module _ (s : List ℕ) (at n v i : ℕ) (inv : Filling s at n v i) where
+  module _ (h : 0 < i) where
+    -- there is room for one byte more
+    module _ (few : n ≤ 8) where
+      small : v < 256 ^ 7
+      small = lt-of-lt-of-le (inv .below) (pow-le-pow-right {n = 256} (lit< tt) {i = n - i} {j = 7} (omega arith))
+
+      pub shifted-fits : Fits w64 (v * 256)
+      shifted-fits = let l = small in record { fits = omega arith }
+
+      pub more-fits : (b : ℕ) → b < 256 → Fits w64 (v * 256 + b)
+      more-fits b k = let l = small in record { fits = omega arith }
+
+    pub filling-turn : (b : ℕ) → b ≡ getD s (at + (i - 1)) 0 → b < 256 → Filling s at n (v * 256 + b) (i - 1)
+    filling-turn b e k =
+        let w = inv .within in
+        let l = inv .below in
+        let one : n - (i - 1) ≡ suc (n - i) = omega arith in
+        let next : at + i ≡ suc (at + (i - 1)) = omega arith in
+        let high : v ≡ numberAt (n - i) s (suc (at + (i - 1))) = inv .same ∙ ap (numberAt (n - i) s) next in
+        record {
+          within = omega arith;
+          below = rw (one, pow-suc 256 (n - i)) (omega arith);
+          same = rw one (omega (arith, number-more (n - i) s (at + (i - 1))));
+        }
+
+  module _ (h : i ≤ 0) where
+    whole : n - i ≡ n
+    whole = omega arith
+
+    pub filled-number : v ≡ numberAt n s at
+    filled-number = let front : at + i ≡ at = omega arith in rw (whole, front) at (inv .same)
+
+    pub filled-below : v < 256 ^ n
+    filled-below = rw whole at (inv .below)
+
+pub ruleset read-ends = (past-end, past-rest, one-byte, two-parts, byte-above, needs)
+
+pub ruleset filling-laws = (
+  filling-begins,
+  shifted-fits,
+  more-fits,
+  filling-turn,
+  filled-number,
+  filled-below,
+  needs,
+)

@@ -1,6 +1,7 @@
 pub mod Width
 pub mod At
 pub mod Two
+pub mod Signs
 pub mod Shortest
 pub mod Stores
 pub mod Words

@@ -1,18 +1,17 @@
--- Two's complement, over the byte count n and the machine's width w: a value and what n bytes hold for it are inverse.
+-- Two's complement, over the byte count n: a value and what n bytes hold for it are inverse.
 use mathlib.Core.Path.{_≡_, refl, _∙_, sym, ap}
-use mathlib.Core.Bool.{Bool, true, false, false≢true}
+use mathlib.Core.Bool.{Bool, true, false}
 use Prim.Native.Nat.{ℕ, zero, suc, _+_, _-_, _*_, _/_, _%_, _^_, _≤_, _<_}
 use native.Mathlib.Omega.{arith}
 use native.Mathlib.Nat.{mod-eq-of-lt, mul-comm, mul-suc, pow-suc, pow-le-pow-right, lt-of-lt-of-le}
 use lib.Arith.{digits-mod}
-use lib.Dec.{T, ltb, leb, lit<}
-use lib.IntN.{ℤ, pos, negsuc, natAbs}
+use lib.Dec.{ltb, lit<}
+use lib.IntN.{ℤ, pos, negsuc}
 use lib.Pow.{pow-add}
-use lib.Signed.{leZ, nonNeg, mag}
-use mir.Syntax.{Width, w128}
-use mir.Val.{Fits, SFits, toZ, ofZ, sel, bits, hbits}
-use mir.ValLaws.{toZ-pos, toZ-neg, toZ-ofZ, half-full}
-use borrow.Author.Tests.{lt-ltb, le-ltb, ltb-true, ltb-false, leb-false}
+use lib.Signed.{mag}
+use mir.Syntax.{w128}
+use mir.Val.{toZ, sel}
+use borrow.Author.Tests.{lt-ltb, le-ltb, ltb-true, ltb-false}
 use Rattle.types.specs.Choice.{pick}
 use Rattle.little.specs.Le.{toLE}
 use Rattle.little.specs.Twos.{twos, twosBits}
@@ -73,7 +72,9 @@ even (suc n) h = rw (pow-suc 256 n) (omega arith)
 
 twos-held-at : (n v : ℕ) (t : Bool) → ltb v (256 ^ n / 2) ≡ t → 0 < n → v < 256 ^ n → mag (twos n v) < 256 ^ n / 2
 twos-held-at n v true e p h = rw (twos-low n v (ltb-true v (256 ^ n / 2) e)) (ltb-true v (256 ^ n / 2) e)
-twos-held-at n v false e p h = let m : 256 ^ n / 2 ≤ v = ltb-false v (256 ^ n / 2) e in rw (twos-high n v m) (omega (arith, even n p))
+twos-held-at n v false e p h =
+    let m : 256 ^ n / 2 ≤ v = ltb-false v (256 ^ n / 2) e in
+    rw (twos-high n v m) (omega (arith, even n p))
 
 pub twos-held : (n v : ℕ) → 0 < n → v < 256 ^ n → holdsS n (twos n v) ≡ true
 twos-held n v p h = mag-held n (twos n v) (twos-held-at n v (ltb v (256 ^ n / 2)) refl p h)
@@ -88,7 +89,8 @@ bits-lt n (negsuc k) h = omega (arith, byte-pow-pos n)
 pub wide : (n d : ℕ) → 256 ^ (n + d) ≡ (256 ^ d - 1) * 256 ^ n + 256 ^ n
 wide n d =
     let e : 256 ^ d ≡ suc (256 ^ d - 1) = omega (arith, byte-pow-pos d) in
-    pow-add 256 n d ∙ ap (λ (x : ℕ). 256 ^ n * x) e ∙ mul-suc (256 ^ n) (256 ^ d - 1) ∙ ap (λ (x : ℕ). x + 256 ^ n) (mul-comm (256 ^ n) (256 ^ d - 1))
+    pow-add 256 n d ∙ ap (λ (x : ℕ). 256 ^ n * x) e ∙ mul-suc (256 ^ n) (256 ^ d - 1)
+    ∙ ap (λ (x : ℕ). x + 256 ^ n) (mul-comm (256 ^ n) (256 ^ d - 1))
 
 below-wide : (n d k : ℕ) → k < 256 ^ n → (256 ^ (n + d) - 1 - k) % 256 ^ n ≡ 256 ^ n - 1 - k
 below-wide n d k h =
@@ -102,12 +104,15 @@ low-bytes n m (negsuc k) le h =
     let l : k < 256 ^ n / 2 = held-mag n (negsuc k) h in
     let e : n + (m - n) ≡ m = omega arith in
     let small : 256 ^ n - 1 - k < 256 ^ n = omega arith in
-    to-same n (256 ^ m - 1 - k) (256 ^ n - 1 - k) (rw e at (below-wide n (m - n) k (omega arith)) ∙ sym (mod-eq-of-lt small))
+    let low = rw e at (below-wide n (m - n) k (omega arith)) in
+    to-same n (256 ^ m - 1 - k) (256 ^ n - 1 - k) (low ∙ sym (mod-eq-of-lt small))
 
 -- more bytes hold it too
 pub holdsU-more : (n m k : ℕ) → n ≤ m → holdsU n k ≡ true → holdsU m k ≡ true
 unfolding holdsU
-holdsU-more n m k le h = lt-ltb k (256 ^ m) (lt-of-lt-of-le (ltb-true k (256 ^ n) h) (pow-le-pow-right {n = 256} (lit< tt) {i = n} {j = m} le))
+holdsU-more n m k le h =
+    let p : 256 ^ n ≤ 256 ^ m = pow-le-pow-right {n = 256} (lit< tt) {i = n} {j = m} le in
+    lt-ltb k (256 ^ m) (lt-of-lt-of-le (ltb-true k (256 ^ n) h) p)
 
 pub holdsS-more : (n m : ℕ) (z : ℤ) → n ≤ m → holdsS n z ≡ true → holdsS m z ≡ true
 holdsS-more n m z le h =
@@ -115,52 +120,11 @@ holdsS-more n m z le h =
     let k : mag z < 256 ^ n / 2 = held-mag n z h in
     mag-held m z (omega arith)
 
--- reading into a machine's width: below the half, and from the half on
-pub low-half : (w : Width) (n v : ℕ) → v < 256 ^ n / 2 → v < 2 ^ hbits w → toZ w v ≡ twos n v
-low-half w n v h k = toZ-pos w v k ∙ sym (twos-low n v h)
-
-less-one : (a b : ℕ) → a - 1 - b ≡ a - suc b
-less-one a b = omega arith
-
-pub high-half : (w : Width) (n v : ℕ) → 256 ^ n / 2 ≤ v → 256 ^ n - 1 - v < 2 ^ hbits w → toZ w (2 ^ bits w - 1 - (256 ^ n - 1 - v)) ≡ twos n v
-high-half w n v h k =
-    ap (toZ w) (less-one (2 ^ bits w) (256 ^ n - 1 - v)) ∙ toZ-neg w (256 ^ n - 1 - v) k ∙ sym (twos-high n v h)
-
 -- the machine's own two's complement of 128 bits is that of 16 bytes
 chosen : (t : Bool) (m n : ℕ) → sel t (pos n) (negsuc (m - suc n)) ≡ pick t (pos n) (negsuc (m - 1 - n))
 chosen true m n = refl
-chosen false m n = ap negsuc (sym (less-one m n))
+chosen false m n = ap negsuc (omega arith)
 
 pub machine-twos : (n : ℕ) → toZ w128 n ≡ twos 16 n
 unfolding twos
 machine-twos n = chosen (ltb n (256 ^ 16 / 2)) (256 ^ 16) n
-
--- writing from a machine's width: the test `0 <= v`, the casts, the bits
-pos-passes : (n : ℕ) → leb 0 n ≡ false → ⊥
-pos-passes n h = omega (arith, leb-false 0 n h)
-
-module _ (w : Width) (n : ℕ) where
-  pub pos-cast : (u : Width) → 2 ^ hbits w ≤ 2 ^ bits u → (z : ℤ) → SFits w z → leZ (pos 0) (toZ w (ofZ w z)) ≡ true → T (nonNeg (toZ w (ofZ w z))) × Fits u (natAbs (toZ w (ofZ w z)))
-  pos-cast u b (pos k) f h = rw (toZ-ofZ w (pos k) f) (tt, record { fits = lt-of-lt-of-le (f .sfits) b })
-  pos-cast u b (negsuc k) f h = absurd (false≢true (rw (toZ-ofZ w (negsuc k) f) at h))
-
-  pub pos-bits : 2 ^ hbits w ≤ 256 ^ n → (z : ℤ) → SFits w z → leZ (pos 0) (toZ w (ofZ w z)) ≡ true → (natAbs (toZ w (ofZ w z)) ≡ twosBits n z) × (natAbs (toZ w (ofZ w z)) < 256 ^ n)
-  unfolding twosBits
-  pos-bits b (pos k) f h = rw (toZ-ofZ w (pos k) f) (refl, lt-of-lt-of-le (f .sfits) b)
-  pos-bits b (negsuc k) f h = absurd (false≢true (rw (toZ-ofZ w (negsuc k) f) at h))
-
-  twice : (b k : ℕ) → k < b → b - 1 - (b - suc k) ≡ k
-  twice b k h = omega arith
-
-  pub neg-cast : (u : Width) → 2 ^ hbits w ≤ 2 ^ bits u → (z : ℤ) → SFits w z → leZ (pos 0) (toZ w (ofZ w z)) ≡ false → T (nonNeg (toZ w (2 ^ bits w - 1 - ofZ w z))) × Fits u (natAbs (toZ w (2 ^ bits w - 1 - ofZ w z)))
-  neg-cast u b (pos k) f h = absurd (pos-passes k (rw (toZ-ofZ w (pos k) f) at h))
-  neg-cast u b (negsuc k) f h = rw (twice (2 ^ bits w) k (half-full w (f .sfits)), toZ-pos w k (f .sfits)) (tt, record { fits = lt-of-lt-of-le (f .sfits) b })
-
-  pub neg-bits : (z : ℤ) → SFits w z → leZ (pos 0) (toZ w (ofZ w z)) ≡ false → (256 ^ n - 1 - natAbs (toZ w (2 ^ bits w - 1 - ofZ w z)) ≡ twosBits n z) × (256 ^ n - 1 - natAbs (toZ w (2 ^ bits w - 1 - ofZ w z)) < 256 ^ n)
-  unfolding twosBits
-  neg-bits (pos k) f h = absurd (pos-passes k (rw (toZ-ofZ w (pos k) f) at h))
-  neg-bits (negsuc k) f h = rw (twice (2 ^ bits w) k (half-full w (f .sfits)), toZ-pos w k (f .sfits)) (refl, omega (arith, byte-pow-pos n))
-
-  pub neg-room : 2 ^ hbits w ≤ 256 ^ n → (z : ℤ) → SFits w z → leZ (pos 0) (toZ w (ofZ w z)) ≡ false → natAbs (toZ w (2 ^ bits w - 1 - ofZ w z)) ≤ 256 ^ n - 1
-  neg-room b (pos k) f h = absurd (pos-passes k (rw (toZ-ofZ w (pos k) f) at h))
-  neg-room b (negsuc k) f h = rw (twice (2 ^ bits w) k (half-full w (f .sfits)), toZ-pos w k (f .sfits)) (let m : k < 2 ^ hbits w = f .sfits in omega arith)

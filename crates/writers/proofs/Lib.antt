@@ -1,6 +1,6 @@
 pub mod Levels
 pub mod Wrote
-pub mod Signed
-pub mod Words
-pub mod Copies
 pub mod Ends
+pub mod Words
+pub mod Others
+pub mod Copies
