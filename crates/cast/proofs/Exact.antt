@@ -3,7 +3,7 @@
 -- units.
 use mathlib.Core.Path.{_≡_, refl}
 use mathlib.Core.Bool.{Bool, true, false}
-use Prim.Native.Nat.{ℕ, suc, _-_, _*_, _^_}
+use Prim.Native.Nat.{ℕ, suc, _*_, _^_}
 use native.Mathlib.Nat.{le-of-lt}
 use lib.Dec.{T, ltb, le→leb, lt→ltb}
 use lib.IntN.{ℤ, pos, negsuc, natAbs}

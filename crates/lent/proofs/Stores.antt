@@ -9,7 +9,6 @@ use borrow.Author.Tests.{le-ltb, lt-ltb}
 use lib.Seq.{drop-cons, take-suc, set-at, length-take-le, take-length, take-append-seam, drop-append-seam, drop-length, drop-drop, take-all}
 use Rattle.lent.specs.Lent.{writtenAnswer, writtenContent}
 use Rattle.types.specs.Refusals.{noRoom}
-use Rattle.types.specs.declared.Written.{Written}
 use Rattle.types.specs.declared.Written.the-variants as W
 
 -- without room: refusal 9, and the buffer as it was
@@ -25,10 +24,6 @@ answer-room bytes old h = simp (le-ltb (length old) (length bytes) h)
 
 pub content-room : (bytes old : List ℕ) → length bytes ≤ length old → writtenContent bytes old ≡ bytes ++ drop (length bytes) old
 content-room bytes old h = simp (le-ltb (length old) (length bytes) h)
-
--- a write of equal bytes is the same write
-pub same-write : (a b old new : List ℕ) (r : Written) → a ≡ b → (r ≡ writtenAnswer a old) × (new ≡ writtenContent a old) → (r ≡ writtenAnswer b old) × (new ≡ writtenContent b old)
-same-write a b old new r e p = (p .0 ∙ ap (λ (l : List ℕ). writtenAnswer l old) e, p .1 ∙ ap (λ (l : List ℕ). writtenContent l old) e)
 
 -- one store more of a buffer whose first i elements are those of s, and the rest as in d
 pub copy-more : (d s : List ℕ) (i : ℕ) → i < length s → length s ≤ length d → set (take i s ++ drop i d) i (getD s i 0) ≡ take (i + 1) s ++ drop (i + 1) d

@@ -11,8 +11,8 @@ use mir.Syntax.{w64}
 use mir.Val.{Fits}
 use borrow.Author.Needs.{needs}
 use lib.Dec.{ltb, lit<}
-use lib.ListN.{length, drop, getD, drop-of-length-le, length-drop, List·getD-eq-default}
-use lib.Seq.{drop-cons, take-nil, drop-at, take-append-seam, drop-append-le, take-append-le}
+use lib.ListN.{length, getD, drop-of-length-le, List·getD-eq-default}
+use lib.Seq.{drop-cons, take-nil, drop-at, take-append-seam}
 use borrow.Author.Tests.{ltb-true, ltb-false}
 use Rattle.little.specs.Le.{fromLE, toLE, numberAt}
 use Rattle.little.proofs.Width.{byte-pow-pos, from-to, to-length}
@@ -20,7 +20,8 @@ use Rattle.little.proofs.Width.{byte-pow-pos, from-to, to-length}
 past : (s : List ℕ) (j : ℕ) → length s ≤ j → getD s j 0 ≡ 0
 past s j h = List·getD-eq-default s 0 h
 
-more-at : (n : ℕ) (s : List ℕ) (at : ℕ) (t : Bool) → ltb at (length s) ≡ t → numberAt (suc n) s at ≡ getD s at 0 + 256 * numberAt n s (suc at)
+more-at : (n : ℕ) (s : List ℕ) (at : ℕ) (t : Bool) → ltb at (length s) ≡ t →
+    numberAt (suc n) s at ≡ getD s at 0 + 256 * numberAt n s (suc at)
 unfolding fromLE numberAt
 more-at n s at true e = rw (drop-cons s at 0 (ltb-true at (length s) e))
 more-at n s at false e =
@@ -36,11 +37,20 @@ unfolding fromLE numberAt
 number-none s at = refl
 
 -- n + m bytes: the n lowest, and m bytes above them
-pub number-add : (n m : ℕ) (s : List ℕ) (at : ℕ) → numberAt (n + m) s at ≡ numberAt n s at + 256 ^ n * numberAt m s (at + n)
+pub number-add : (n m : ℕ) (s : List ℕ) (at : ℕ) →
+    numberAt (n + m) s at ≡ numberAt n s at + 256 ^ n * numberAt m s (at + n)
 number-add zero m s at = rw (zero-add m, number-none s at, add-zero at) (omega arith)
 number-add (suc n) m s at =
     let next : suc at + n ≡ at + suc n = omega arith in
-    rw (suc-add n m, number-more (n + m) s at, number-more n s at, number-add n m s (suc at), next, pow-succ' 256 n, mul-assoc) (omega arith)
+    rw (
+      suc-add n m,
+      number-more (n + m) s at,
+      number-more n s at,
+      number-add n m s (suc at),
+      next,
+      pow-succ' 256 n,
+      mul-assoc,
+    ) (omega arith)
 
 -- of bytes, it fits its count
 pub number-lt : (n : ℕ) (s : List ℕ) (at : ℕ) → ((i : ℕ) → getD s i 0 < 256) → numberAt n s at < 256 ^ n
@@ -48,23 +58,20 @@ number-lt zero s at h = rw (number-none s at) (lit< tt)
 number-lt (suc n) s at h = rw (number-more n s at, pow-suc 256 n) (omega (arith, h at, number-lt n s (suc at) h))
 
 -- where bytes stand, their number is read
-pub number-stands : (before bytes after : List ℕ) → numberAt (length bytes) (before ++ (bytes ++ after)) (length before) ≡ fromLE bytes
+pub number-stands : (before bytes after : List ℕ) →
+    numberAt (length bytes) (before ++ (bytes ++ after)) (length before) ≡ fromLE bytes
 unfolding numberAt
-number-stands before bytes after = rw (drop-at before (bytes ++ after) (length before) refl, take-append-seam bytes after)
+number-stands before bytes after =
+    rw (drop-at before (bytes ++ after) (length before) refl, take-append-seam bytes after)
 
 -- where the bytes of k stand, k is read
-pub number-reads : (n k : ℕ) (s : List ℕ) (at : ℕ) (before after : List ℕ) → s ≡ before ++ (toLE n k ++ after) → at ≡ length before → numberAt n s at ≡ k % 256 ^ n
+pub number-reads : (n k : ℕ) (s : List ℕ) (at : ℕ) (before after : List ℕ) → s ≡ before ++ (toLE n k ++ after) →
+    at ≡ length before → numberAt n s at ≡ k % 256 ^ n
 number-reads n k s at before after e a =
-    let stands : numberAt n (before ++ (toLE n k ++ after)) (length before) ≡ fromLE (toLE n k) = rw (to-length n k) at (number-stands before (toLE n k) after) in
+    let stands : numberAt n (before ++ (toLE n k ++ after)) (length before) ≡ fromLE (toLE n k) =
+    rw (to-length n k) at (number-stands before (toLE n k) after)
+    in
     rw (e, a, stands, from-to n k)
-
--- what follows the number is not looked at
-pub number-ahead : (n : ℕ) (s after : List ℕ) (at : ℕ) → at + n ≤ length s → numberAt n (s ++ after) at ≡ numberAt n s at
-unfolding numberAt
-number-ahead n s after at h =
-    let left : at ≤ length s = omega arith in
-    let room : n ≤ length (drop at s) = simp length-drop (omega arith) in
-    rw (drop-append-le at s after left, take-append-le n (drop at s) after room)
 
 -- The ends of the reads: a byte, or zero past the end.
 module _ (s : List ℕ) (at i : ℕ) where
@@ -90,7 +97,8 @@ module _ (s : List ℕ) (at : ℕ) where
       weight ≡ 256 ^ (n - 1) → low + b * weight ≡ numberAt n s at
   byte-above n low b weight l e p w =
       let one : n - (n - 1) ≡ 1 = omega arith in
-      let high : b ≡ numberAt (n - (n - 1)) s (at + (n - 1)) = rw one (e ∙ sym (number-more 0 s (at + (n - 1)) ∙ rw (number-none s (suc (at + (n - 1)))) (omega arith))) in
+      let alone = number-more 0 s (at + (n - 1)) ∙ rw (number-none s (suc (at + (n - 1)))) (omega arith) in
+      let high : b ≡ numberAt (n - (n - 1)) s (at + (n - 1)) = rw one (e ∙ sym alone) in
       two-parts (n - 1) n low b weight l high (omega arith) w
 
 -- The loop that reads from the highest byte down: v is the number of the bytes from i on.

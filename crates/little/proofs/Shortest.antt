@@ -6,7 +6,7 @@ use Prim.Native.Nat.{ℕ, _<_, _^_}
 use native.Mathlib.Omega.{arith}
 use lib.Dec.{ltb, eqb}
 use lib.IntN.{ℤ}
-use borrow.Author.Tests.{ltb-true, ltb-false, lt-ltb, eqb-true, eq-eqb}
+use borrow.Author.Tests.{ltb-true, lt-ltb, eqb-true, eq-eqb}
 use Rattle.types.specs.Choice.{pick}
 use Rattle.little.specs.Counts.{counts, listed, holdsU, holdsS, firstThat, shortestU, shortestS}
 
@@ -37,14 +37,6 @@ above : (m : ℕ) (l : List ℕ) (c : ℕ) → rising m l ≡ true → listed c 
 unfolding listed
 above m [] c r l = absurd (false≢true l)
 above m (d ∷ ds) c r l = above-at m d ds c (eqb c d) refl (ltb-true m d (rising-head m d ds r)) (above d ds c (rising-tail m d ds r)) l
-
-neither-at : (a b : ℕ) (t u : Bool) → ltb a b ≡ t → ltb b a ≡ u → (a < b → ⊥) → (b < a → ⊥) → a ≡ b
-neither-at a b true u e f x y = absurd (x (ltb-true a b e))
-neither-at a b false true e f x y = absurd (y (ltb-true b a f))
-neither-at a b false false e f x y = omega (arith, ltb-false a b e, ltb-false b a f)
-
-neither : (a b : ℕ) → (a < b → ⊥) → (b < a → ⊥) → a ≡ b
-neither a b x y = neither-at a b (ltb a b) (ltb b a) refl refl x y
 
 either : (t : Bool) → pick t true true ≡ true
 either true = refl
@@ -87,15 +79,6 @@ module _ (p : ℕ → Bool) where
   unfolding listed
   first-least m [] c r l h = absurd (false≢true l)
   first-least m (d ∷ ds) c r l h = least-at m d ds c (p d) (eqb c d) refl refl (rising-head m d ds r) (rising-tail m d ds r) (first-least d ds c (rising-tail m d ds r)) l h
-
-  -- and so it is the one that passes where no smaller one does
-  pub first-is : (m : ℕ) (l : List ℕ) (c : ℕ) → rising m l ≡ true → listed c l ≡ true → p c ≡ true → ((d : ℕ) → listed d l ≡ true → d < c → p d ≡ false) → firstThat p l ≡ c
-  first-is m l c r k h none =
-      let passes : p (firstThat p l) ≡ true = first-holds l c k h in
-      let within : listed (firstThat p l) l ≡ true = first-listed l c k h in
-      let not-less : firstThat p l < c → ⊥ = λ (q : firstThat p l < c). false≢true (sym (none (firstThat p l) within q) ∙ passes) in
-      let not-more : c < firstThat p l → ⊥ = λ (q : c < firstThat p l). false≢true (sym (first-least m l c r k q) ∙ h) in
-      neither (firstThat p l) c not-less not-more
 
 -- the smallest count that holds the value: it holds it, it is a count, and no smaller count holds it
 pub shortestU-holds : (k : ℕ) → k < 256 ^ 16 → holdsU (shortestU k) k ≡ true

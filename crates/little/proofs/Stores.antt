@@ -57,10 +57,12 @@ number-stored first n v old new h p e =
 after : (n : ℕ) (head more bytes old begun : List ℕ) → length head ≡ n → n + length more ≤ length old →
     begun ≡ writtenContent head old → bytes ≡ more → sets begun n bytes ≡ writtenContent (head ++ more) old
 after n head more bytes old begun count room is e =
-    let whole : length (head ++ more) ≡ n + length more = length-append head more ∙ ap (λ (k : ℕ). k + length more) count in
+    let whole : length (head ++ more) ≡ n + length more =
+    length-append head more ∙ ap (λ (k : ℕ). k + length more) count in
     let front : length head ≤ length old = omega arith in
     let both : length (head ++ more) ≤ length old = omega arith in
-    let split : begun ≡ head ++ drop n old = is ∙ content-room head old front ∙ ap (λ (k : ℕ). head ++ drop k old) count in
+    let split : begun ≡ head ++ drop n old =
+    is ∙ content-room head old front ∙ ap (λ (k : ℕ). head ++ drop k old) count in
     let long : n + length more ≤ length begun =
     rw (split, length-append head (drop n old), length-drop n old) (omega arith) in
     let taken : take n begun ≡ head = ap (take n) split ∙ take-at head (drop n old) n count in
@@ -75,7 +77,8 @@ pub high-stored : (first n low m high : ℕ) (old begun new : List ℕ) → begu
     new ≡ writtenContent (first ∷ (toLE n low ++ toLE m high)) old
 high-stored first n low m high old begun new is e p h =
     let one : suc (m - 1) ≡ m = omega arith in
-    let same : high % 256 ∷ spread (m - 1) high 1 ≡ toLE m high = to-spread (m - 1) high ∙ ap (λ (k : ℕ). toLE k high) one in
+    let same : high % 256 ∷ spread (m - 1) high 1 ≡ toLE m high =
+    to-spread (m - 1) high ∙ ap (λ (k : ℕ). toLE k high) one in
     let long : length (toLE m high) ≡ m = to-length m high in
     let room : suc n + length (toLE m high) ≤ length old = omega arith in
     e ∙ after (suc n) (first ∷ toLE n low) (toLE m high) _ old begun (ap suc (to-length n low)) room is same

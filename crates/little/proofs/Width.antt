@@ -49,9 +49,6 @@ to-from (b ∷ bs) h =
     let high : (b + 256 * fromLE bs) / 256 ≡ fromLE bs = omega (arith, h 0) in
     rw (low, high, to-from bs (λ i. h (suc i)))
 
-pub to-from-at : (n : ℕ) (l : List ℕ) → length l ≡ n → ((i : ℕ) → getD l i 0 < 256) → toLE n (fromLE l) ≡ l
-to-from-at n l e h = ap (λ (m : ℕ). toLE m (fromLE l)) (sym e) ∙ to-from l h
-
 -- the number of n bytes is below 256 ^ n
 pub from-lt : (l : List ℕ) → ((i : ℕ) → getD l i 0 < 256) → fromLE l < 256 ^ length l
 unfolding fromLE

@@ -8,9 +8,9 @@ use native.Mathlib.Nat.{mul-zero, mul-comm, mul-suc, mul-le-mul-left, le-mul-of-
 use lib.Dec.{ltb}
 use lib.IntN.{negsuc}
 use lib.Signed.{mag}
-use borrow.Author.Tests.{ltb-true, ltb-false, le-ltb}
+use borrow.Author.Tests.{ltb-true, ltb-false}
 use Rattle.little.specs.Twos.{twos}
-use Rattle.little.specs.Counts.{holdsU, holdsS}
+use Rattle.little.specs.Counts.{holdsS}
 use Rattle.little.proofs.Width.{byte-pow-pos}
 use Rattle.little.proofs.Two.{twos-low, twos-high, mag-not-held, even, wide}
 
@@ -63,10 +63,3 @@ module _ (n d low high : ℕ) (0<n : 0 < n) (0<d : 0 < d) (fits : low < 256 ^ n)
       let most : 256 ^ n * high + 256 ^ n ≤ (256 ^ d - 1) * 256 ^ n =
       rw (← mul-suc (256 ^ n) high, mul-comm (256 ^ d - 1) (256 ^ n)) (mul-le-mul-left (256 ^ n) q) in
       far n (n + d) (low + 256 ^ n * high) (omega arith) (omega (arith, wide n d))
-
--- unsigned: the low word alone holds it exactly if nothing is above
-pub unsigned-far : (n low high : ℕ) → 0 < high → holdsU n (low + 256 ^ n * high) ≡ false
-unfolding holdsU
-unsigned-far n low high p =
-    let least : 256 ^ n ≤ 256 ^ n * high = le-mul-of-pos-right (256 ^ n) p in
-    le-ltb (low + 256 ^ n * high) (256 ^ n) (omega arith)

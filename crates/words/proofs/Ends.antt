@@ -46,8 +46,8 @@ module _ (old : List ℕ) (h : 8 ≤ length old) where
 
 pub ruleset say-ends = (short-number, short-words, in-stored, in-room, number-stored, words-stored, needs)
 
--- An answer of any type, by the function that says it, with which these are cited: `number-said saidRan`. What a case says
--- is read there under `unfolding`, so a field more in an answer changes nothing here.
+-- An answer of any type, by the function that says it, with which these are cited: `number-said saidRan`. What a case
+-- says is read there under `unfolding`, so a field more in an answer changes nothing here.
 module _ {X : Type 0} (said : X → Said) (answer : X) (old : List ℕ) where
   -- the number and the words that were handed on are the answer's
   pub number-told : (r number : ℕ) →

@@ -9,7 +9,7 @@ use native.Mathlib.Omega.{arith}
 use lib.Dec.{leb}
 use lib.ListN.{length, take, drop, set, getD, length-drop, take-append-drop, drop-of-length-le, List·getD-append}
 use lib.Seq.{getD-take, length-take-le, length-front, set-getD, take-at, drop-at, take-add, take-take}
-use lib.Seq.{take-append-le, drop-drop, drop-append-le, drop-append-add}
+use lib.Seq.{take-append-le, drop-drop, drop-append-add}
 use borrow.Author.Tests.{leb-true, leb-false}
 use Rattle.lent.proofs.Stores.{copy-more, copy-done}
 use Rattle.writers.specs.Copies.{Front, Copied}

@@ -1,5 +1,5 @@
 -- What a writer ensures of its answer and of its buffer, from what the writer that it calls ensures.
-use mathlib.Core.Path.{_≡_, refl}
+use mathlib.Core.Path.{_≡_}
 use mathlib.Core.Bool.{Bool, true, false}
 use mathlib.Core.List.{List}
 use Prim.Native.Nat.{ℕ}

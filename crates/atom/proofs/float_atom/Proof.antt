@@ -4,8 +4,4 @@ use Rattle.atom.proofs.float_atom.Statement.{statement}
 use Rattle.atom.proofs.float_atom.Tie as tie
 
 pub float-atom-spec : {M : Type 1} → statement M
-float-atom-spec =
-    tie.close
-    (tie.spec
-    (λ c κs. search number-ends)
-    (λ c. search number-ends))
+float-atom-spec = tie.close (tie.spec (λ c κs. search number-ends) (λ c. search number-ends))

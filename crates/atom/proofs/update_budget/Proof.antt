@@ -4,8 +4,4 @@ use Rattle.atom.proofs.update_budget.Statement.{statement}
 use Rattle.atom.proofs.update_budget.Tie as tie
 
 pub update-budget-spec : {M : Type 1} → statement M
-update-budget-spec =
-    tie.close
-    (tie.spec
-    (λ c. search charge-ends)
-    (λ c. search charge-ends))
+update-budget-spec = tie.close (tie.spec (λ c. search charge-ends) (λ c. search charge-ends))

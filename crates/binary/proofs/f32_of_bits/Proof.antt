@@ -4,9 +4,4 @@ use Rattle.binary.proofs.f32_of_bits.Statement.{statement}
 use Rattle.binary.proofs.f32_of_bits.Tie as tie
 
 pub f32-of-bits-spec : {M : Type 1} → statement M
-f32-of-bits-spec =
-    tie.close
-    (tie.spec
-    (λ c. search float-ends)
-    (λ c. search float-ends)
-    (λ c. search float-ends))
+f32-of-bits-spec = tie.close (tie.spec (λ c. search float-ends) (λ c. search float-ends) (λ c. search float-ends))

@@ -6,9 +6,4 @@ use Rattle.binary.proofs.f32_pattern.Statement.{statement}
 use Rattle.binary.proofs.f32_pattern.Tie as tie
 
 pub f32-pattern-spec : {M : Type 1} → statement M
-f32-pattern-spec =
-    tie.close
-    (tie.spec
-    (λ c. search float-ends)
-    (λ c. search float-ends)
-    (λ c. search float-ends))
+f32-pattern-spec = tie.close (tie.spec (λ c. search float-ends) (λ c. search float-ends) (λ c. search float-ends))

@@ -6,9 +6,4 @@ use Rattle.binary.proofs.f64_pattern.Statement.{statement}
 use Rattle.binary.proofs.f64_pattern.Tie as tie
 
 pub f64-pattern-spec : {M : Type 1} → statement M
-f64-pattern-spec =
-    tie.close
-    (tie.spec
-    (λ c. search float-ends)
-    (λ c. search float-ends)
-    (λ c. search float-ends))
+f64-pattern-spec = tie.close (tie.spec (λ c. search float-ends) (λ c. search float-ends) (λ c. search float-ends))

@@ -10,10 +10,4 @@ returns-2 : tie.Need-returns-2
 returns-2 c = search equal-ends
 
 pub equal-spec : {M : Type 1} → statement M
-equal-spec =
-    tie.close
-    (tie.spec
-    (λ c κs. search equal-ends)
-    returns
-    (λ c κs. search equal-ends)
-    returns-2)
+equal-spec = tie.close (tie.spec (λ c κs. search equal-ends) returns (λ c κs. search equal-ends) returns-2)

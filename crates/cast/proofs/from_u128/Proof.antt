@@ -7,9 +7,4 @@ returns-2 : tie.Need-returns-2
 returns-2 c = search wide-from-ends
 
 pub from-u128-spec : {M : Type 1} → statement M
-from-u128-spec =
-    tie.close
-    (tie.spec
-    (λ c κs. search wide-from-ends)
-    (λ c. search wide-from-ends)
-    returns-2)
+from-u128-spec = tie.close (tie.spec (λ c κs. search wide-from-ends) (λ c. search wide-from-ends) returns-2)

@@ -10,10 +10,4 @@ returns-2 : tie.Need-returns-2
 returns-2 c = search unsigned-from
 
 pub from-u16-spec : {M : Type 1} → statement M
-from-u16-spec =
-    tie.close
-    (tie.spec
-    cast-from-u8
-    (λ c κs. search unsigned-from)
-    (λ c. search unsigned-from)
-    returns-2)
+from-u16-spec = tie.close (tie.spec cast-from-u8 (λ c κs. search unsigned-from) (λ c. search unsigned-from) returns-2)

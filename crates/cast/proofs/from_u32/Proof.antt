@@ -10,10 +10,4 @@ returns-2 : tie.Need-returns-2
 returns-2 c = search unsigned-from
 
 pub from-u32-spec : {M : Type 1} → statement M
-from-u32-spec =
-    tie.close
-    (tie.spec
-    cast-from-u16
-    (λ c κs. search unsigned-from)
-    (λ c. search unsigned-from)
-    returns-2)
+from-u32-spec = tie.close (tie.spec cast-from-u16 (λ c κs. search unsigned-from) (λ c. search unsigned-from) returns-2)

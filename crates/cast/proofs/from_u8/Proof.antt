@@ -4,7 +4,4 @@ use Rattle.cast.proofs.from_u8.Statement.{statement}
 use Rattle.cast.proofs.from_u8.Tie as tie
 
 pub from-u8-spec : {M : Type 1} → statement M
-from-u8-spec =
-    tie.close
-    (tie.spec
-    (λ c. search unsigned-from))
+from-u8-spec = tie.close (tie.spec (λ c. search unsigned-from))

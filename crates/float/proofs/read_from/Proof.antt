@@ -7,9 +7,4 @@ returns : tie.Need-returns
 returns c = search read-ends
 
 pub read-from-spec : {M : Type 1} → statement M
-read-from-spec =
-    tie.close
-    (tie.spec
-    (λ c κs. search read-ends)
-    (λ c κs. search read-ends)
-    returns)
+read-from-spec = tie.close (tie.spec (λ c κs. search read-ends) (λ c κs. search read-ends) returns)

@@ -14,10 +14,4 @@ returns-3 : tie.Need-returns-3
 returns-3 c = search (large-number, needs)
 
 pub whole-from-spec : {M : Type 1} → statement M
-whole-from-spec =
-    tie.close
-    (tie.spec
-    returns
-    returns-2
-    (λ c κs. search needs)
-    returns-3)
+whole-from-spec = tie.close (tie.spec returns returns-2 (λ c κs. search needs) returns-3)

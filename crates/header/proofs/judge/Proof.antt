@@ -4,9 +4,4 @@ use Rattle.header.proofs.judge.Statement.{statement}
 use Rattle.header.proofs.judge.Tie as tie
 
 pub judge-spec : {M : Type 1} → statement M
-judge-spec =
-    tie.close
-    (tie.spec
-    (λ c. search judge-ends)
-    (λ c. search judge-ends)
-    (λ c. search judge-ends))
+judge-spec = tie.close (tie.spec (λ c. search judge-ends) (λ c. search judge-ends) (λ c. search judge-ends))

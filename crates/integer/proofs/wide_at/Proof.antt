@@ -4,10 +4,4 @@ use Rattle.integer.proofs.wide_at.Statement.{statement}
 use Rattle.integer.proofs.wide_at.Tie as tie
 
 pub wide-at-spec : {M : Type 1} → statement M
-wide-at-spec =
-    tie.close
-    (tie.spec
-    (λ c κs. search arms)
-    (λ c. search arms)
-    (λ c κs. search arms)
-    (λ c. search arms))
+wide-at-spec = tie.close (tie.spec (λ c κs. search arms) (λ c. search arms) (λ c κs. search arms) (λ c. search arms))

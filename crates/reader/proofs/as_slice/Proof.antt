@@ -10,10 +10,4 @@ returns-2 : tie.Need-returns-2
 returns-2 c = search part-ends
 
 pub as-slice-spec : {M : Type 1} → statement M
-as-slice-spec =
-    tie.close
-    (tie.spec
-    (λ c κs. search part-ends)
-    returns
-    (λ c κs. search part-ends)
-    returns-2)
+as-slice-spec = tie.close (tie.spec (λ c κs. search part-ends) returns (λ c κs. search part-ends) returns-2)

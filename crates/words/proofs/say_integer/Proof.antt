@@ -9,10 +9,4 @@ returns : tie.Need-returns
 returns c = search (words-told saidInteger, parts)
 
 pub say-integer-spec : {M : Type 1} → statement M
-say-integer-spec =
-    tie.close
-    (tie.spec
-    (λ c κs. search needs)
-    (λ c κs. search needs)
-    (λ c. search needs)
-    returns)
+say-integer-spec = tie.close (tie.spec (λ c κs. search needs) (λ c κs. search needs) (λ c. search needs) returns)
