@@ -7,7 +7,7 @@ use Rattle.float.proofs.same_number.Statement.{statement}
 use Rattle.float.proofs.same_number.Tie as tie
 
 returns : tie.Need-returns
-returns c = equal-is (c .args .left) (c .args .right) (fine Ieee.binary64 (c .args .left) (search needs)) (fine Ieee.binary64 (c .args .right) (search needs))
+returns c = search (equal-is, fine Ieee.binary64, needs)
 
 pub same-number-spec : {M : Type 1} → statement M
 same-number-spec = tie.close (tie.spec returns)

@@ -7,14 +7,14 @@ use Rattle.float.proofs.widen.Statement.{statement}
 use Rattle.float.proofs.widen.Tie as tie
 
 float-to-float-result : tie.Need-float-to-float-result
-float-to-float-result c = let n = self-no-nan (c .before .before .args .value) (c .before .if1 .taken) in search needs
+float-to-float-result c = search (self-no-nan, needs)
 
 returns : tie.Need-returns
 returns c = search needs
 
 returns-2 : tie.Need-returns-2
 unfolding Ieee.ofBits Ieee.div
-returns-2 c = sym (self-nan (c .before .args .value) (c .if1 .left))
+returns-2 c = sym (self-nan _ (search needs))
 
 pub widen-spec : {M : Type 1} → statement M
 widen-spec = tie.close (tie.spec float-to-float-result returns returns-2)
