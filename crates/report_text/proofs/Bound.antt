@@ -193,11 +193,16 @@ pub text-most : (file : List ℕ) → length (reportText (reportOf file)) ≤ 79
 unfolding reportOf
 text-most file = judged-most file (ltb mostFileBytes (length file)) refl
 
--- so that in a buffer of that length it is never refused, and stands there whole
+-- so that a buffer of that length has its room
+pub text-room : (file old : List ℕ) → 79 ≤ length old →
+    writtenAnswer (reportText (reportOf file)) old ≡ WR.Count (length (reportText (reportOf file)))
+text-room file old h = let m = text-most file in answer-room (reportText (reportOf file)) old (omega arith)
+
+-- there it is never refused, and stands whole
 module _ (file old : List ℕ) (answer : Written) (room : length old ≡ 79)
     (e : answer ≡ writtenAnswer (reportText (reportOf file)) old) where
   whole : answer ≡ WR.Count (length (reportText (reportOf file)))
-  whole = let m = text-most file in e ∙ answer-room (reportText (reportOf file)) old (omega arith)
+  whole = e ∙ text-room file old (omega arith)
 
   module _ (n : ℕ) (d : answer ≡ WR.Count n) where
     pub text-counted : n ≡ length (reportText (reportOf file))
