@@ -97,7 +97,9 @@ module _ (s : List ℕ) (at : ℕ) where
       weight ≡ 256 ^ (n - 1) → low + b * weight ≡ numberAt n s at
   byte-above n low b weight l e p w =
       let one : n - (n - 1) ≡ 1 = omega arith in
-      let alone = number-more 0 s (at + (n - 1)) ∙ rw (number-none s (suc (at + (n - 1)))) (omega arith) in
+      let alone : numberAt 1 s (at + (n - 1)) ≡ getD s (at + (n - 1)) 0 =
+      number-more 0 s (at + (n - 1)) ∙ rw (number-none s (suc (at + (n - 1)))) (omega arith)
+      in
       let high : b ≡ numberAt (n - (n - 1)) s (at + (n - 1)) = rw one (e ∙ sym alone) in
       two-parts (n - 1) n low b weight l high (omega arith) w
 
