@@ -15,7 +15,7 @@ use Rattle.types.specs.declared.Ran.{Ran}
 use Rattle.types.specs.declared.Ran.the-variants as RN
 use Rattle.dictionary.specs.Steps.{skipped, ShortPast}
 use Rattle.dictionary.specs.Runs.{runFrom, runAll}
-use Rattle.dictionary.proofs.Steps.{step-less}
+use Rattle.dictionary.proofs.Steps.{Past, step-less}
 use Rattle.dictionary.proofs.Turns.{Walked, walk-begins, walk-on, walk-answers, run-on, run-stop, run-end}
 
 -- so many atoms are read, the place is there, so much of the budget is left, and the rest of the run is the whole one's
@@ -31,7 +31,7 @@ run-begins s all = walk-begins running s (all .0, 0)
 module _ (s : List ℕ) (all : Budget) (atoms at left : ℕ) (i : Running s all atoms at left) where
   module _ (h : at < length s) where
     passed : (place : Place) (rest : Budget) (body : Place) (t : Bool) →
-        skipped s at (record { 0 = left }) ≡ SK.Past place rest body t → Running s all (atoms + 1) (place .0) (rest .0)
+        Past s at (record { 0 = left }) place rest body t → Running s all (atoms + 1) (place .0) (rest .0)
     passed place rest body t e =
         walk-on running s _ atoms at _ i (record { 0 = left }) place rest body t e _
         (λ fuel later k. run-on s fuel later at (record { 0 = left }) atoms k place rest body t h e)
@@ -39,13 +39,13 @@ module _ (s : List ℕ) (all : Budget) (atoms at left : ℕ) (i : Running s all 
     -- an atom passed by its first byte
     pub short-turn : (short : ℕ) → at < short → (at < short → ShortPast s at left short) →
         Running s all (atoms + 1) short (left - (short - at - 1))
-    short-turn short n e = let z : short - at - 1 ≡ short - (at + 1) = omega arith in rw z (passed _ _ _ _ (e n))
+    short-turn short n e = let z : short - at - 1 ≡ short - (at + 1) = omega arith in rw z (passed _ _ _ _ (record { is = e n }))
 
     -- passed by the step, and refused by it
     module _ (r : Skipped) (place : Place) (rest : Budget) (q : r ≡ skipped s at (record { 0 = left })) where
       pub turn : (body : Place) (t : Bool) → r ≡ SK.Past place rest body t →
           Running s all (atoms + 1) (place .0) (rest .0)
-      turn body t p = passed place rest body t (sym q ∙ p)
+      turn body t p = passed place rest body t (record { is = sym q ∙ p })
 
       pub stops : (why : Refusal) → r ≡ SK.Refused place rest why →
           RN.Stopped place rest atoms why (record { 0 = at }) ≡ runAll s all

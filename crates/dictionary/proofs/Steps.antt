@@ -93,6 +93,12 @@ charge-word K.Map arg h = omega arith
 charge-word K.Symbol arg h = omega arith
 charge-word K.Bytes arg h = omega arith
 
+-- the step goes past an atom: to a place, with so much of the budget left, over a body that starts there, a string or not
+pub record Past (s : List ℕ) (at : ℕ) (budget : Budget) (place : Place) (rest : Budget) (body : Place) (string : Bool)
+    : Type 0
+  where
+    pub is : skipped s at budget ≡ SK.Past place rest body string
+
 -- THE STEP GOES FORWARD: an atom takes a byte at least and never passes the end; the budget never rises
 pub record Forward (s : List ℕ) (at left place rest body : ℕ) : Type 0 where
   pub takes : at < body
@@ -115,20 +121,19 @@ forward-body s at len charge left place rest body b string t allowed h k p =
 module _ (s : List ℕ) (at : ℕ) (within : at ≤ length s) (budget : Budget) (place : Place) (rest : Budget) (body : Place)
     (t : Bool) where
   forward-at : (v : Bool) → leb (at + headerLength (drop at s)) (length s) ≡ v →
-      skipped s at budget ≡ SK.Past place rest body t → Forward s at (budget .0) (place .0) (rest .0) (body .0)
+      Past s at budget place rest body t → Forward s at (budget .0) (place .0) (rest .0) (body .0)
   forward-at false h e =
-      let x = sym e ∙ step-cut s at within budget (leb-false (at + headerLength (drop at s)) (length s) h) in
+      let x = sym (e .is) ∙ step-cut s at within budget (leb-false (at + headerLength (drop at s)) (length s) h) in
       absurd (false≢true cc)
   forward-at true h e =
       let l = drop at s in
       let k = leb-true (at + headerLength l) (length s) h in
-      let x = sym (step-body s at within budget k) ∙ e in
+      let x = sym (step-body s at within budget k) ∙ e .is in
       let one = length-bounds l .0 in
       forward-body s at _ _ (budget .0) _ _ _ (at + headerLength l) _ t _ (omega arith)
       (price-bound (headerKind l) (headerArgument l)) (passed _ _ _ _ _ _ _ place rest body t _ x)
 
-  pub forward : skipped s at budget ≡ SK.Past place rest body t →
-      Forward s at (budget .0) (place .0) (rest .0) (body .0)
+  pub forward : Past s at budget place rest body t → Forward s at (budget .0) (place .0) (rest .0) (body .0)
   forward e = forward-at (leb (at + headerLength (drop at s)) (length s)) refl e
 
 -- what the loops have of a step that passed an atom: the body starts before its end, within the source, the budget
@@ -136,7 +141,7 @@ module _ (s : List ℕ) (at : ℕ) (within : at ≤ length s) (budget : Budget) 
 module _ (s : List ℕ) (at left : ℕ) (r : Skipped) (place : Place) (rest : Budget) (body : Place) (t : Bool)
     (q : r ≡ skipped s at (record { 0 = left })) (p : r ≡ SK.Past place rest body t) (h : at < length s) where
   pub went : Forward s at left (place .0) (rest .0) (body .0)
-  went = forward s at (omega arith) (record { 0 = left }) place rest body t (sym q ∙ p)
+  went = forward s at (omega arith) (record { 0 = left }) place rest body t (record { is = sym q ∙ p })
 
   pub step-starts : body .0 ≤ place .0
   step-starts = went .after

@@ -23,7 +23,7 @@ use Rattle.types.specs.declared.TallyAnswer.the-variants as TA
 use Rattle.dictionary.specs.Letters.{letters}
 use Rattle.dictionary.specs.Steps.{skipped, ShortPast}
 use Rattle.dictionary.specs.Runs.{tallied, tallyFrom, tallyAll, nothing, unlimited}
-use Rattle.dictionary.proofs.Steps.{forward, went, step-starts, step-inside, step-falls, step-less}
+use Rattle.dictionary.proofs.Steps.{Past, forward, went, step-starts, step-inside, step-falls, step-less}
 use Rattle.dictionary.proofs.Turns.{Walked, walk-begins, walk-on, walk-answers, tally-on, tally-stop, tally-end}
 
 -- so much is counted, the place is there, and the rest of the tally is the whole one's
@@ -49,7 +49,7 @@ module _ (s : List ℕ) (atoms body charge signs at : ℕ) (i : Tallying s atoms
     -- an atom that is passed, with so many letters
     passed : (place : Place) (rest : Budget) (from : Place) (string : Bool) (n : ℕ) → n + from .0 ≤ place .0 →
         n ≡ pick string (letters (take (place .0 - from .0) (drop (from .0) s))) 0 →
-        skipped s at (record { 0 = unlimited }) ≡ SK.Past place rest from string →
+        Past s at (record { 0 = unlimited }) place rest from string →
         Tallying s (atoms + 1) (body + (place .0 - from .0)) (charge + (unlimited - rest .0)) (signs + n) (place .0)
     passed place rest from string n most e p =
         let w = forward s at (omega arith) (record { 0 = unlimited }) place rest from string p in
@@ -71,7 +71,7 @@ module _ (s : List ℕ) (atoms body charge signs at : ℕ) (i : Tallying s atoms
         Tallying s (atoms + 1) (body + (short - (at + 1))) (charge + (short - (at + 1))) (signs + n) short
     short-tally short n k paid e m most =
         let z : unlimited - (unlimited - (short - (at + 1))) ≡ short - (at + 1) = omega arith in
-        rw z at (passed (record { 0 = short }) _ (record { 0 = at + 1 }) _ n most m (e k))
+        rw z at (passed (record { 0 = short }) _ (record { 0 = at + 1 }) _ n most m (record { is = e k }))
 
     module _ (r : Skipped) (end : Place) (rest : Budget) (q : r ≡ skipped s at (record { 0 = unlimited })) where
       -- passed by the step: no sum wraps
@@ -88,7 +88,7 @@ module _ (s : List ℕ) (atoms body charge signs at : ℕ) (i : Tallying s atoms
 
           pub step-tally : n ≡ pick string (letters (take (end .0 - from .0) (drop (from .0) s))) 0 →
               Tallying s (atoms + 1) (body + (end .0 - from .0)) (charge + (unlimited - rest .0)) (signs + n) (end .0)
-          step-tally m = passed end rest from string n most m (sym q ∙ p)
+          step-tally m = passed end rest from string n most m (record { is = sym q ∙ p })
 
       -- refused by it
       pub tally-stops : (why : Refusal) → length s ≤ 16_777_216 → r ≡ SK.Refused end rest why →

@@ -22,7 +22,7 @@ use Rattle.types.specs.declared.TallyAnswer.the-variants as TA
 use Rattle.header.specs.Header.{headerRead}
 use Rattle.atom.specs.Atoms.{atomRead}
 use Rattle.dictionary.specs.Steps.{forgotten, skipped}
-use Rattle.dictionary.proofs.Steps.{forward}
+use Rattle.dictionary.proofs.Steps.{Past, forward}
 use Rattle.dictionary.specs.Runs.{afterAtom, runFrom, tallyFrom, added, unlimited}
 
 -- what the forgotten value leaves of an atom's read
@@ -43,10 +43,10 @@ module _ {X : Type 0} (on : Place → Budget → X) (stop : Place → Budget →
     read-refused (H.Refused n q) (A.Refused p b r) why e = cc
 
     module _ (s : List ℕ) (at : ℕ) (budget : Budget) where
-      atom-past : (body : Place) (t : Bool) → skipped s at budget ≡ SK.Past place rest body t →
+      atom-past : (body : Place) (t : Bool) → Past s at budget place rest body t →
           afterAtom (atomRead W.ExactLent s at budget []) on stop ≡ on place rest
       unfolding skipped
-      atom-past body t e = read-past (headerRead W.ExactLent s at) (atomRead W.ExactLent s at budget []) body t e
+      atom-past body t e = read-past (headerRead W.ExactLent s at) (atomRead W.ExactLent s at budget []) body t (e .is)
 
       atom-refused : (why : Refusal) → skipped s at budget ≡ SK.Refused place rest why →
           afterAtom (atomRead W.ExactLent s at budget []) on stop ≡ stop place rest why
@@ -56,7 +56,7 @@ module _ {X : Type 0} (on : Place → Budget → X) (stop : Place → Budget →
 -- a turn of the run
 module _ (s : List ℕ) (fuel left at : ℕ) (budget : Budget) (atoms : ℕ) (enough : fuel ≡ suc left) where
   pub run-on : (place : Place) (rest : Budget) (body : Place) (t : Bool) → at < length s →
-      skipped s at budget ≡ SK.Past place rest body t →
+      Past s at budget place rest body t →
       runFrom fuel s at budget atoms ≡ runFrom left s (place .0) rest (atoms + 1)
   unfolding runFrom
   run-on place rest body t h e = rw (enough, lt-ltb at (length s) h) (atom-past _ _ place rest s at budget body t e)
@@ -74,10 +74,10 @@ module _ (s : List ℕ) (fuel left at : ℕ) (budget : Budget) (atoms : ℕ) (en
 -- a turn of the tally
 module _ (s : List ℕ) (fuel left at : ℕ) (t : Tallied) (enough : fuel ≡ suc left) where
   pub tally-on : (place : Place) (rest : Budget) (body : Place) (string : Bool) → at < length s →
-      skipped s at (record { 0 = unlimited }) ≡ SK.Past place rest body string →
+      Past s at (record { 0 = unlimited }) place rest body string →
       tallyFrom fuel s at t ≡ tallyFrom left s (place .0) (added s t (place .0) (rest .0) (body .0) string)
   unfolding tallyFrom
-  tally-on place rest body string h e = rw (enough, lt-ltb at (length s) h, e) refl
+  tally-on place rest body string h e = rw (enough, lt-ltb at (length s) h, e .is) refl
 
   pub tally-stop : (place : Place) (rest : Budget) (why : Refusal) → at < length s →
       skipped s at (record { 0 = unlimited }) ≡ SK.Refused place rest why →
@@ -106,7 +106,7 @@ module _ {X Y : Type 0} (walk : ℕ → List ℕ → ℕ → X → Y) (s : List 
   module _ (all : Y) (atoms at : ℕ) (x : X) (w : Walked walk s all atoms at x) where
     -- a turn goes on, past an atom
     pub walk-on : (budget : Budget) (place : Place) (rest : Budget) (body : Place) (t : Bool) →
-        skipped s at budget ≡ SK.Past place rest body t → (y : X) →
+        Past s at budget place rest body t → (y : X) →
         ((fuel left : ℕ) → fuel ≡ suc left → walk fuel s at x ≡ walk left s (place .0) y) →
         Walked walk s all (atoms + 1) (place .0) y
     walk-on budget place rest body t e y turn =

@@ -22,7 +22,7 @@ use Rattle.dictionary.specs.Wholes.{known, isString, unknown, IsAtom, pr
 use Rattle.dictionary.specs.Steps.{skipped, bodyPast, bodyAfter}
 use Rattle.dictionary.specs.Runs.{unlimited, added}
 use Rattle.dictionary.proofs.Bodies.{past-over, past-unknown, past-eof, past-whole}
-use Rattle.dictionary.proofs.Steps.{step-cut, step-body, charge-word}
+use Rattle.dictionary.proofs.Steps.{Past, step-cut, step-body, charge-word}
 use Rattle.dictionary.proofs.Fronts.{Front, front}
 
 same-body : (n left : ℕ) (k l : Kind) (a b h i : ℕ) → k ≡ l → a ≡ b → h ≡ i → bodyAfter n k a h left ≡ bodyAfter n l b i left
@@ -66,13 +66,22 @@ module _ (s : List ℕ) (at : ℕ) (within : at ≤ length s) (atom rest : List 
   past-end = let e = w .its-length in omega arith
 
   -- its charge is within the budget: it is passed, and costs its price
-  pub atom-past : (budget : Budget) → price atom ≤ budget .0 → skipped s at budget ≡ SK.Past (record { 0 = at + length atom }) (record { 0 = budget .0 - price atom }) (record { 0 = at + headerLength atom }) (isString (headerKind atom))
+  pub atom-past : (budget : Budget) → price atom ≤ budget .0 →
+      Past s at budget (record { 0 = at + length atom }) (record { 0 = budget .0 - price atom })
+      (record { 0 = at + headerLength atom }) (isString (headerKind atom))
   atom-past budget h =
+      let k : Kind = headerKind atom in
       let room : at + headerLength atom + bodyBytes atom ≤ length s = omega (arith, past-end, atom-within) in
-      body-there budget
-      ∙ ap (λ (t : Bool). bodyPast (length s) (at + headerLength atom) (budget .0) (isString (headerKind atom)) (bodyBytes atom) (price atom) t (unknown (headerKind atom) (headerArgument atom))) (w .its-kind)
-      ∙ past-whole (length s) (at + headerLength atom) (budget .0) (isString (headerKind atom)) (bodyBytes atom) (price atom) (unknown (headerKind atom) (headerArgument atom)) h room
-      ∙ ap (λ (n : ℕ). SK.Past (record { 0 = n }) (record { 0 = budget .0 - price atom }) (record { 0 = at + headerLength atom }) (isString (headerKind atom))) past-end
+      record {
+        is =
+            body-there budget
+            ∙ ap (λ (t : Bool). bodyPast (length s) (at + headerLength atom) (budget .0) (isString k) (bodyBytes atom)
+            (price atom) t (unknown k (headerArgument atom))) (w .its-kind)
+            ∙ past-whole (length s) (at + headerLength atom) (budget .0) (isString k) (bodyBytes atom) (price atom)
+            (unknown k (headerArgument atom)) h room
+            ∙ ap (λ (n : ℕ). SK.Past (record { 0 = n }) (record { 0 = budget .0 - price atom })
+            (record { 0 = at + headerLength atom }) (isString k)) past-end;
+      }
 
   -- it is not: refusal 5, past the header, and the budget stays
   pub atom-over : (budget : Budget) → budget .0 < price atom → skipped s at budget ≡ SK.Refused (record { 0 = at + headerLength atom }) (record { 0 = budget .0 }) R.TooManyBytesRead

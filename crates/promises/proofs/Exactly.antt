@@ -21,7 +21,7 @@ use Rattle.atom.specs.Atoms.{atomRead}
 use Rattle.dictionary.specs.Wholes.{known, bodyLength, chargeOf, isString, unknown}
 use Rattle.dictionary.specs.Steps.{forgotten, skipped, bodyPast}
 use Rattle.dictionary.proofs.Bodies.{past-whole, passed}
-use Rattle.dictionary.proofs.Steps.{step-cut, step-body}
+use Rattle.dictionary.proofs.Steps.{Past, step-cut, step-body}
 use Rattle.dictionary.proofs.Forwards.{read-step}
 
 -- the atom at a place is whole and known, and the budget holds its charge
@@ -33,14 +33,14 @@ pub record Whole (s : List ℕ) (at : ℕ) (budget : Budget) : Type 0 where
 
 -- a step that skipped it says so
 module _ (s : List ℕ) (at : ℕ) (within : at ≤ length s) (budget : Budget) (place : Place) (rest : Budget) (body : Place) (string : Bool) where
-  skipped-at : (v : Bool) → leb (at + headerLength (drop at s)) (length s) ≡ v → skipped s at budget ≡ SK.Past place rest body string → Whole s at budget
+  skipped-at : (v : Bool) → leb (at + headerLength (drop at s)) (length s) ≡ v → Past s at budget place rest body string → Whole s at budget
   skipped-at false h e =
-      let x = sym e ∙ step-cut s at within budget (leb-false (at + headerLength (drop at s)) (length s) h) in
+      let x = sym (e .is) ∙ step-cut s at within budget (leb-false (at + headerLength (drop at s)) (length s) h) in
       absurd (false≢true cc)
   skipped-at true h e =
       let l = drop at s in
       let k = leb-true (at + headerLength l) (length s) h in
-      let p = passed (length s) (at + headerLength l) (budget .0) (isString (headerKind l)) (bodyLength (headerKind l) (headerArgument l)) (chargeOf (headerKind l) (headerArgument l)) (unknown (headerKind l) (headerArgument l)) place rest body string (known (headerKind l) (headerArgument l)) (sym (step-body s at within budget k) ∙ e) in
+      let p = passed (length s) (at + headerLength l) (budget .0) (isString (headerKind l)) (bodyLength (headerKind l) (headerArgument l)) (chargeOf (headerKind l) (headerArgument l)) (unknown (headerKind l) (headerArgument l)) place rest body string (known (headerKind l) (headerArgument l)) (sym (step-body s at within budget k) ∙ e .is) in
       record { header-there = k; body-there = p .is-whole; form-known = p .is-known; afforded = p .afforded }
 
 -- ONLY IF: what exact reading takes is whole and known
