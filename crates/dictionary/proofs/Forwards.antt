@@ -24,8 +24,10 @@ pub record Step (s : List ℕ) (at : ℕ) (budget : Budget) (place : Place) (res
 
 step-of : (s : List ℕ) (at : ℕ) (budget : Budget) (place : Place) (rest : Budget) (atom : Atom) (h : HeaderAnswer) →
     skipped s at budget ≡ forgotten h (A.Read place rest atom) → Step s at budget place rest
-step-of s at budget place rest atom (H.Read next kind arg) e = record { body = next; string = isString kind; past = record { is = e } }
-step-of s at budget place rest atom (H.Refused end why) e = record { body = end; string = false; past = record { is = e } }
+step-of s at budget place rest atom (H.Read next kind arg) e =
+    record { body = next; string = isString kind; past = record { is = e } }
+step-of s at budget place rest atom (H.Refused end why) e =
+    record { body = end; string = false; past = record { is = e } }
 
 pub read-step : (s : List ℕ) (at : ℕ) (budget : Budget) (place : Place) (rest : Budget) (atom : Atom) →
     atomRead W.ExactLent s at budget [] ≡ A.Read place rest atom → Step s at budget place rest

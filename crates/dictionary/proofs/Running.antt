@@ -39,7 +39,9 @@ module _ (s : List ℕ) (all : Budget) (atoms at left : ℕ) (i : Running s all 
     -- an atom passed by its first byte
     pub short-turn : (short : ℕ) → at < short → (at < short → ShortPast s at left short) →
         Running s all (atoms + 1) short (left - (short - at - 1))
-    short-turn short n e = let z : short - at - 1 ≡ short - (at + 1) = omega arith in rw z (passed _ _ _ _ (record { is = e n }))
+    short-turn short n e =
+        let z : short - at - 1 ≡ short - (at + 1) = omega arith in
+        rw z (passed _ _ _ _ (record { is = e n }))
 
     -- passed by the step, and refused by it
     module _ (r : Skipped) (place : Place) (rest : Budget) (q : r ≡ skipped s at (record { 0 = left })) where

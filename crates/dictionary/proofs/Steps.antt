@@ -93,7 +93,8 @@ charge-word K.Map arg h = omega arith
 charge-word K.Symbol arg h = omega arith
 charge-word K.Bytes arg h = omega arith
 
--- the step goes past an atom: to a place, with so much of the budget left, over a body that starts there, a string or not
+-- the step goes past an atom: to a place, with so much of the budget left, over a body that starts there and is a
+-- string or not
 pub record Past (s : List ℕ) (at : ℕ) (budget : Budget) (place : Place) (rest : Budget) (body : Place) (string : Bool)
     : Type 0
   where
