@@ -1,5 +1,5 @@
--- The step at a whole, known atom, with a budget that covers its charge and with one that does not; and at bytes that start with
--- no such atom.
+-- The step at a whole, known atom, with a budget that covers its charge and with one that does not; and at bytes that
+-- start with no such atom.
 use mathlib.Core.Path.{_≡_, _∙_, sym, ap}
 use mathlib.Core.Bool.{Bool}
 use mathlib.Core.List.{List, _++_}
@@ -18,16 +18,19 @@ use Rattle.types.specs.declared.Tallied.{Tallied}
 use Rattle.header.specs.Header.{headerKind, headerArgument, headerLength}
 use Rattle.header.proofs.Fewest.{length-bounds, argument-word}
 use Rattle.dictionary.specs.Letters.{letters}
-use Rattle.dictionary.specs.Wholes.{known, isString, unknown, IsAtom, price, bodyBytes, lettersIn, Spoilt, cut-header, not-known, cut-body}
+use Rattle.dictionary.specs.Wholes.{known, isString, unknown, IsAtom, price, bodyBytes, lettersIn, Spoilt}
+use Rattle.dictionary.specs.Wholes.{cut-header, not-known, cut-body}
 use Rattle.dictionary.specs.Steps.{skipped, bodyPast, bodyAfter}
 use Rattle.dictionary.specs.Runs.{unlimited, added}
 use Rattle.dictionary.proofs.Bodies.{past-over, past-unknown, past-eof, past-whole}
 use Rattle.dictionary.proofs.Steps.{Past, step-cut, step-body, charge-word}
 use Rattle.dictionary.proofs.Fronts.{Front, front}
 
-same-body : (n left : ℕ) (k l : Kind) (a b h i : ℕ) → k ≡ l → a ≡ b → h ≡ i → bodyAfter n k a h left ≡ bodyAfter n l b i left
+same-body : (n left : ℕ) (k l : Kind) (a b h i : ℕ) → k ≡ l → a ≡ b → h ≡ i →
+    bodyAfter n k a h left ≡ bodyAfter n l b i left
 same-body n left k l a b h i p q r =
-    ap (λ (x : Kind). bodyAfter n x a h left) p ∙ ap (λ (x : ℕ). bodyAfter n l x h left) q ∙ ap (λ (x : ℕ). bodyAfter n l b x left) r
+    ap (λ (x : Kind). bodyAfter n x a h left) p ∙ ap (λ (x : ℕ). bodyAfter n l x h left) q
+    ∙ ap (λ (x : ℕ). bodyAfter n l b x left) r
 
 -- the largest budget covers every charge
 pub price-word : (bytes : List ℕ) → price bytes ≤ unlimited
@@ -37,9 +40,14 @@ price-word bytes = charge-word (headerKind bytes) (headerArgument bytes) (argume
 pub atom-some : (atom : List ℕ) → IsAtom atom → 1 ≤ length atom
 atom-some atom w = let b = length-bounds atom .0 in let h = w .its-header in omega arith
 
-module _ (s : List ℕ) (at : ℕ) (within : at ≤ length s) (atom rest : List ℕ) (here : drop at s ≡ atom ++ rest) (w : IsAtom atom) where
+module _ (s : List ℕ) (at : ℕ) (within : at ≤ length s) (atom rest : List ℕ) (here : drop at s ≡ atom ++ rest)
+    (w : IsAtom atom) where
   size : length s ≡ at + (length atom + length rest)
-  size = let e : length s - at ≡ length atom + length rest = sym (length-drop at s) ∙ ap length here ∙ length-append atom rest in omega arith
+  size =
+      let e : length s - at ≡ length atom + length rest =
+      sym (length-drop at s) ∙ ap length here ∙ length-append atom rest
+      in
+      omega arith
 
   pub atom-within : at + length atom ≤ length s
   atom-within = omega (arith, size)
@@ -57,10 +65,15 @@ module _ (s : List ℕ) (at : ℕ) (within : at ≤ length s) (atom rest : List 
   header-room : at + headerLength (drop at s) ≤ length s
   header-room = let a = header-there in let b = w .its-header in omega (arith, size)
 
-  body-there : (budget : Budget) → skipped s at budget ≡ bodyAfter (length s) (headerKind atom) (headerArgument atom) (at + headerLength atom) (budget .0)
+  body-there : (budget : Budget) →
+      skipped s at budget
+      ≡ bodyAfter (length s) (headerKind atom) (headerArgument atom) (at + headerLength atom) (budget .0)
   body-there budget =
       step-body s at within budget header-room
-      ∙ same-body (length s) (budget .0) (headerKind (drop at s)) (headerKind atom) (headerArgument (drop at s)) (headerArgument atom) (at + headerLength (drop at s)) (at + headerLength atom) (ap headerKind here ∙ its-front .same-kind) (ap headerArgument here ∙ its-front .same-argument) (ap (λ (n : ℕ). at + n) header-there)
+      ∙ same-body (length s) (budget .0) (headerKind (drop at s)) (headerKind atom) (headerArgument (drop at s))
+      (headerArgument atom) (at + headerLength (drop at s)) (at + headerLength atom)
+      (ap headerKind here ∙ its-front .same-kind) (ap headerArgument here ∙ its-front .same-argument)
+      (ap (λ (n : ℕ). at + n) header-there)
 
   past-end : at + headerLength atom + bodyBytes atom ≡ at + length atom
   past-end = let e = w .its-length in omega arith
@@ -84,10 +97,13 @@ module _ (s : List ℕ) (at : ℕ) (within : at ≤ length s) (atom rest : List 
       }
 
   -- it is not: refusal 5, past the header, and the budget stays
-  pub atom-over : (budget : Budget) → budget .0 < price atom → skipped s at budget ≡ SK.Refused (record { 0 = at + headerLength atom }) (record { 0 = budget .0 }) R.TooManyBytesRead
+  pub atom-over : (budget : Budget) → budget .0 < price atom →
+      skipped s at budget
+      ≡ SK.Refused (record { 0 = at + headerLength atom }) (record { 0 = budget .0 }) R.TooManyBytesRead
   atom-over budget h =
       body-there budget
-      ∙ past-over (length s) (at + headerLength atom) (budget .0) (isString (headerKind atom)) (bodyBytes atom) (price atom) (unknown (headerKind atom) (headerArgument atom)) (known (headerKind atom) (headerArgument atom)) h
+      ∙ past-over (length s) (at + headerLength atom) (budget .0) (isString (headerKind atom)) (bodyBytes atom)
+      (price atom) (unknown (headerKind atom) (headerArgument atom)) (known (headerKind atom) (headerArgument atom)) h
 
 -- what the tally adds for it
 abbrev pub plus : Tallied → List ℕ → Tallied
@@ -108,21 +124,33 @@ spent : (p : ℕ) → p ≤ 0xFFFF_FFFF_FFFF_FFFF → 0xFFFF_FFFF_FFFF_FFFF - (0
 spent p h = omega arith
 
 module _ (s : List ℕ) (at : ℕ) (atom rest : List ℕ) (here : drop at s ≡ atom ++ rest) (w : IsAtom atom) where
-  body-bytes : take (at + length atom - (at + headerLength atom)) (drop (at + headerLength atom) s) ≡ drop (headerLength atom) atom
+  body-bytes : take (at + length atom - (at + headerLength atom)) (drop (at + headerLength atom) s)
+      ≡ drop (headerLength atom) atom
   body-bytes =
       let h = headerLength atom in
-      let there : drop (at + h) s ≡ drop h atom ++ rest = sym (drop-drop h at s) ∙ ap (drop h) here ∙ drop-append-le h atom rest (w .its-header) in
+      let there : drop (at + h) s ≡ drop h atom ++ rest =
+      sym (drop-drop h at s) ∙ ap (drop h) here ∙ drop-append-le h atom rest (w .its-header)
+      in
       let n : length (drop h atom) ≡ at + length atom - (at + h) = length-drop h atom ∙ span at (length atom) h in
       ap (take (at + length atom - (at + h))) there ∙ take-at (drop h atom) rest (at + length atom - (at + h)) n
     where
       span : (at n h : ℕ) → n - h ≡ at + n - (at + h)
       span at n h = omega arith
 
-  pub added-plus : (t : Tallied) → added s t (at + length atom) (unlimited - price atom) (at + headerLength atom) (isString (headerKind atom)) ≡ plus t atom
+  pub added-plus : (t : Tallied) →
+      added s t (at + length atom) (unlimited - price atom) (at + headerLength atom) (isString (headerKind atom))
+      ≡ plus t atom
   added-plus t =
-      ap (λ (x : ℕ). counted (t .atoms + 1) (t .body .0 + x) (t .charge + (unlimited - (unlimited - price atom))) (t .letters + pick (isString (headerKind atom)) (letters (take (at + length atom - (at + headerLength atom)) (drop (at + headerLength atom) s))) 0)) (body-length at (length atom) (headerLength atom) (bodyBytes atom) (w .its-length))
-      ∙ ap (λ (x : ℕ). counted (t .atoms + 1) (t .body .0 + bodyBytes atom) (t .charge + x) (t .letters + pick (isString (headerKind atom)) (letters (take (at + length atom - (at + headerLength atom)) (drop (at + headerLength atom) s))) 0)) (spent (price atom) (price-word atom))
-      ∙ ap (λ (x : List ℕ). counted (t .atoms + 1) (t .body .0 + bodyBytes atom) (t .charge + price atom) (t .letters + pick (isString (headerKind atom)) (letters x) 0)) body-bytes
+      ap (λ (x : ℕ). counted (t .atoms + 1) (t .body .0 + x) (t .charge + (unlimited - (unlimited - price atom)))
+      (t .letters + pick (isString (headerKind atom))
+      (letters (take (at + length atom - (at + headerLength atom)) (drop (at + headerLength atom) s))) 0))
+      (body-length at (length atom) (headerLength atom) (bodyBytes atom) (w .its-length))
+      ∙ ap (λ (x : ℕ). counted (t .atoms + 1) (t .body .0 + bodyBytes atom) (t .charge + x)
+      (t .letters + pick (isString (headerKind atom))
+      (letters (take (at + length atom - (at + headerLength atom)) (drop (at + headerLength atom) s))) 0))
+      (spent (price atom) (price-word atom))
+      ∙ ap (λ (x : List ℕ). counted (t .atoms + 1) (t .body .0 + bodyBytes atom) (t .charge + price atom)
+      (t .letters + pick (isString (headerKind atom)) (letters x) 0)) body-bytes
 
 -- bytes that start with no whole, known atom: the step refuses, with the refusal of what stands there
 pub record Refuses (s : List ℕ) (at : ℕ) (why : Refusal) : Type 0 where
@@ -141,18 +169,26 @@ past-both s at h b p k = omega arith
 
 module _ (s : List ℕ) (at : ℕ) (within : at ≤ length s) where
   -- a header that is whole: the step is what the body does
-  body-at : {t : Bool} (l : List ℕ) → drop at s ≡ l → headerLength l ≤ length l → length l ≡ length s - at → known (headerKind l) (headerArgument l) ≡ t → skipped s at (record { 0 = unlimited }) ≡ bodyPast (length s) (at + headerLength l) unlimited (isString (headerKind l)) (bodyBytes l) (price l) t (unknown (headerKind l) (headerArgument l))
+  body-at : {t : Bool} (l : List ℕ) → drop at s ≡ l → headerLength l ≤ length l → length l ≡ length s - at →
+      known (headerKind l) (headerArgument l) ≡ t →
+      skipped s at (record { 0 = unlimited })
+      ≡ bodyPast (length s) (at + headerLength l) unlimited (isString (headerKind l)) (bodyBytes l) (price l) t
+      (unknown (headerKind l) (headerArgument l))
   body-at l here h n k =
-      step-body s at within (record { 0 = unlimited }) (room-of (length s) at (headerLength (drop at s)) within (rw (← n, here) h))
+      step-body s at within (record { 0 = unlimited })
+      (room-of (length s) at (headerLength (drop at s)) within (rw (← n, here) h))
       ∙ ap (λ (x : List ℕ). bodyAfter (length s) (headerKind x) (headerArgument x) (at + headerLength x) unlimited) here
-      ∙ ap (λ (t : Bool). bodyPast (length s) (at + headerLength l) unlimited (isString (headerKind l)) (bodyBytes l) (price l) t (unknown (headerKind l) (headerArgument l))) k
+      ∙ ap (λ (t : Bool). bodyPast (length s) (at + headerLength l) unlimited (isString (headerKind l)) (bodyBytes l)
+      (price l) t (unknown (headerKind l) (headerArgument l))) k
 
   spoilt-at : (l : List ℕ) (why : Refusal) → drop at s ≡ l → Spoilt l why → length l ≡ length s - at → Refuses s at why
   spoilt-at l why here (cut-header h) n =
       record {
         place = record { 0 = length s };
         left = record { 0 = unlimited };
-        refused = step-cut s at within (record { 0 = unlimited }) (past-of (length s) at (headerLength (drop at s)) within (rw (← n, here) h));
+        refused =
+            step-cut s at within (record { 0 = unlimited })
+            (past-of (length s) at (headerLength (drop at s)) within (rw (← n, here) h));
       }
   spoilt-at l why here (not-known h k) n =
       record {
@@ -160,7 +196,8 @@ module _ (s : List ℕ) (at : ℕ) (within : at ≤ length s) where
         left = record { 0 = unlimited - price l };
         refused =
             body-at l here h n k
-            ∙ past-unknown (length s) (at + headerLength l) unlimited (isString (headerKind l)) (bodyBytes l) (price l) (unknown (headerKind l) (headerArgument l)) (price-word l);
+            ∙ past-unknown (length s) (at + headerLength l) unlimited (isString (headerKind l)) (bodyBytes l)
+            (price l) (unknown (headerKind l) (headerArgument l)) (price-word l);
       }
   spoilt-at l why here (cut-body h k m) n =
       record {
@@ -168,7 +205,9 @@ module _ (s : List ℕ) (at : ℕ) (within : at ≤ length s) where
         left = record { 0 = unlimited - price l };
         refused =
             body-at l here h n k
-            ∙ past-eof (length s) (at + headerLength l) unlimited (isString (headerKind l)) (bodyBytes l) (price l) (unknown (headerKind l) (headerArgument l)) (price-word l) (past-both (length s) at (headerLength l) (bodyBytes l) within (rw (← n) m));
+            ∙ past-eof (length s) (at + headerLength l) unlimited (isString (headerKind l)) (bodyBytes l) (price l)
+            (unknown (headerKind l) (headerArgument l)) (price-word l)
+            (past-both (length s) at (headerLength l) (bodyBytes l) within (rw (← n) m));
       }
 
   pub spoilt-refuses : (l : List ℕ) (why : Refusal) → drop at s ≡ l → Spoilt l why → Refuses s at why

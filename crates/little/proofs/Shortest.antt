@@ -28,7 +28,8 @@ rising-tail : (m d : ℕ) (ds : List ℕ) → rising m (d ∷ ds) ≡ true → r
 unfolding rising
 rising-tail m d ds r = pick-true (ltb m d) (rising d ds) r .1
 
-above-at : (m d : ℕ) (ds : List ℕ) (c : ℕ) (u : Bool) → eqb c d ≡ u → m < d → (listed c ds ≡ true → d < c) → listed c (d ∷ ds) ≡ true → m < c
+above-at : (m d : ℕ) (ds : List ℕ) (c : ℕ) (u : Bool) → eqb c d ≡ u → m < d → (listed c ds ≡ true → d < c) →
+    listed c (d ∷ ds) ≡ true → m < c
 unfolding listed
 above-at m d ds c true f o ih l = let q : c ≡ d = eqb-true c d f in omega arith
 above-at m d ds c false f o ih l = let q : d < c = ih (rw f at l) in omega arith
@@ -36,7 +37,8 @@ above-at m d ds c false f o ih l = let q : d < c = ih (rw f at l) in omega arith
 above : (m : ℕ) (l : List ℕ) (c : ℕ) → rising m l ≡ true → listed c l ≡ true → m < c
 unfolding listed
 above m [] c r l = absurd (false≢true l)
-above m (d ∷ ds) c r l = above-at m d ds c (eqb c d) refl (ltb-true m d (rising-head m d ds r)) (above d ds c (rising-tail m d ds r)) l
+above m (d ∷ ds) c r l =
+    above-at m d ds c (eqb c d) refl (ltb-true m d (rising-head m d ds r)) (above d ds c (rising-tail m d ds r)) l
 
 either : (t : Bool) → pick t true true ≡ true
 either true = refl
@@ -44,7 +46,9 @@ either false = refl
 
 module _ (p : ℕ → Bool) where
   -- it passes, if any does
-  holds-at : (d : ℕ) (ds : List ℕ) (c : ℕ) (t u : Bool) → p d ≡ t → eqb c d ≡ u → (listed c ds ≡ true → p (firstThat p ds) ≡ true) → listed c (d ∷ ds) ≡ true → p c ≡ true → p (firstThat p (d ∷ ds)) ≡ true
+  holds-at : (d : ℕ) (ds : List ℕ) (c : ℕ) (t u : Bool) → p d ≡ t → eqb c d ≡ u →
+      (listed c ds ≡ true → p (firstThat p ds) ≡ true) → listed c (d ∷ ds) ≡ true → p c ≡ true →
+      p (firstThat p (d ∷ ds)) ≡ true
   unfolding listed firstThat
   holds-at d ds c true u e f ih l h = rw e e
   holds-at d ds c false true e f ih l h = absurd (false≢true (sym e ∙ ap p (sym (eqb-true c d f)) ∙ h))
@@ -53,10 +57,13 @@ module _ (p : ℕ → Bool) where
   pub first-holds : (l : List ℕ) (c : ℕ) → listed c l ≡ true → p c ≡ true → p (firstThat p l) ≡ true
   unfolding listed
   first-holds [] c l h = absurd (false≢true l)
-  first-holds (d ∷ ds) c l h = holds-at d ds c (p d) (eqb c d) refl refl (λ (m : listed c ds ≡ true). first-holds ds c m h) l h
+  first-holds (d ∷ ds) c l h =
+      holds-at d ds c (p d) (eqb c d) refl refl (λ (m : listed c ds ≡ true). first-holds ds c m h) l h
 
   -- it is one of the list, if any passes
-  listed-at : (d : ℕ) (ds : List ℕ) (c : ℕ) (t u : Bool) → p d ≡ t → eqb c d ≡ u → (listed c ds ≡ true → listed (firstThat p ds) ds ≡ true) → listed c (d ∷ ds) ≡ true → p c ≡ true → listed (firstThat p (d ∷ ds)) (d ∷ ds) ≡ true
+  listed-at : (d : ℕ) (ds : List ℕ) (c : ℕ) (t u : Bool) → p d ≡ t → eqb c d ≡ u →
+      (listed c ds ≡ true → listed (firstThat p ds) ds ≡ true) → listed c (d ∷ ds) ≡ true → p c ≡ true →
+      listed (firstThat p (d ∷ ds)) (d ∷ ds) ≡ true
   unfolding listed firstThat
   listed-at d ds c true u e f ih l h = rw (e, eq-eqb d d refl)
   listed-at d ds c false true e f ih l h = absurd (false≢true (sym e ∙ ap p (sym (eqb-true c d f)) ∙ h))
@@ -65,20 +72,28 @@ module _ (p : ℕ → Bool) where
   pub first-listed : (l : List ℕ) (c : ℕ) → listed c l ≡ true → p c ≡ true → listed (firstThat p l) l ≡ true
   unfolding listed
   first-listed [] c l h = absurd (false≢true l)
-  first-listed (d ∷ ds) c l h = listed-at d ds c (p d) (eqb c d) refl refl (λ (m : listed c ds ≡ true). first-listed ds c m h) l h
+  first-listed (d ∷ ds) c l h =
+      listed-at d ds c (p d) (eqb c d) refl refl (λ (m : listed c ds ≡ true). first-listed ds c m h) l h
 
   -- none of a rising list that is smaller passes
-  least-at : (m d : ℕ) (ds : List ℕ) (c : ℕ) (t u : Bool) → p d ≡ t → eqb c d ≡ u → ltb m d ≡ true → rising d ds ≡ true → (listed c ds ≡ true → c < firstThat p ds → p c ≡ false) → listed c (d ∷ ds) ≡ true → c < firstThat p (d ∷ ds) → p c ≡ false
+  least-at : (m d : ℕ) (ds : List ℕ) (c : ℕ) (t u : Bool) → p d ≡ t → eqb c d ≡ u → ltb m d ≡ true →
+      rising d ds ≡ true → (listed c ds ≡ true → c < firstThat p ds → p c ≡ false) → listed c (d ∷ ds) ≡ true →
+      c < firstThat p (d ∷ ds) → p c ≡ false
   unfolding listed firstThat
-  least-at m d ds c true true e f o r ih l h = let s : c < d = rw e at h in let q : c ≡ d = eqb-true c d f in absurd (omega arith)
-  least-at m d ds c true false e f o r ih l h = let s : c < d = rw e at h in let q : d < c = above d ds c r (rw f at l) in absurd (omega arith)
+  least-at m d ds c true true e f o r ih l h =
+      let s : c < d = rw e at h in let q : c ≡ d = eqb-true c d f in absurd (omega arith)
+  least-at m d ds c true false e f o r ih l h =
+      let s : c < d = rw e at h in let q : d < c = above d ds c r (rw f at l) in absurd (omega arith)
   least-at m d ds c false true e f o r ih l h = ap p (eqb-true c d f) ∙ e
   least-at m d ds c false false e f o r ih l h = ih (rw f at l) (rw e at h)
 
-  pub first-least : (m : ℕ) (l : List ℕ) (c : ℕ) → rising m l ≡ true → listed c l ≡ true → c < firstThat p l → p c ≡ false
+  pub first-least : (m : ℕ) (l : List ℕ) (c : ℕ) → rising m l ≡ true → listed c l ≡ true → c < firstThat p l →
+      p c ≡ false
   unfolding listed
   first-least m [] c r l h = absurd (false≢true l)
-  first-least m (d ∷ ds) c r l h = least-at m d ds c (p d) (eqb c d) refl refl (rising-head m d ds r) (rising-tail m d ds r) (first-least d ds c (rising-tail m d ds r)) l h
+  first-least m (d ∷ ds) c r l h =
+      least-at m d ds c (p d) (eqb c d) refl refl (rising-head m d ds r) (rising-tail m d ds r)
+      (first-least d ds c (rising-tail m d ds r)) l h
 
 -- the smallest count that holds the value: it holds it, it is a count, and no smaller count holds it
 pub shortestU-holds : (k : ℕ) → k < 256 ^ 16 → holdsU (shortestU k) k ≡ true

@@ -3,7 +3,8 @@ use mathlib.Core.Path.{_≡_, refl, _∙_, sym, ap}
 use mathlib.Core.List.{List, [], _∷_, _++_}
 use Prim.Native.Nat.{ℕ, zero, suc, _+_, _-_, _*_, _/_, _%_, _^_, _<_, _≤_}
 use native.Mathlib.Omega.{arith}
-use native.Mathlib.Nat.{zero-add, suc-add, pow-suc, pow-succ', mul-assoc, div-one, div-eq-of-lt, mod-eq-of-lt, add-mul-div-left, add-mul-mod-self-left, div-div-eq-div-mul}
+use native.Mathlib.Nat.{zero-add, suc-add, pow-suc, pow-succ', mul-assoc, div-one, div-eq-of-lt, mod-eq-of-lt}
+use native.Mathlib.Nat.{add-mul-div-left, add-mul-mod-self-left, div-div-eq-div-mul}
 use lib.Arith.{mod-mul}
 use lib.Pow.{pow-add}
 use lib.Dec.{lit<}
@@ -76,7 +77,9 @@ to-add (suc n) m k = rw (suc-add n m, to-add n m (k / 256), div-div-eq-div-mul k
 -- two words, low and high
 pub to-words : (n m low high : ℕ) → low < 256 ^ n → toLE (n + m) (low + 256 ^ n * high) ≡ toLE n low ++ toLE m high
 to-words n m low high h =
-    let above : (low + 256 ^ n * high) / 256 ^ n ≡ high = add-mul-div-left low high {y = 256 ^ n} (byte-pow-pos n) ∙ ap (λ (q : ℕ). q + high) (div-eq-of-lt h) ∙ zero-add high in
+    let above : (low + 256 ^ n * high) / 256 ^ n ≡ high =
+    add-mul-div-left low high {y = 256 ^ n} (byte-pow-pos n) ∙ ap (λ (q : ℕ). q + high) (div-eq-of-lt h) ∙ zero-add high
+    in
     rw (to-add n m, above, to-same n (low + 256 ^ n * high) low (add-mul-mod-self-left low (256 ^ n) high))
 
 -- the low word alone holds the lowest bytes
@@ -84,7 +87,8 @@ pub to-low : (n m low high : ℕ) → n ≤ m → toLE n (low + 256 ^ m * high) 
 to-low n m low high h =
     let e : n + (m - n) ≡ m = omega arith in
     let parts : 256 ^ m ≡ 256 ^ n * 256 ^ (m - n) = ap (λ (k : ℕ). 256 ^ k) (sym e) ∙ pow-add 256 n (m - n) in
-    to-same n (low + 256 ^ m * high) low (rw (parts, mul-assoc) (add-mul-mod-self-left low (256 ^ n) (256 ^ (m - n) * high)))
+    to-same n (low + 256 ^ m * high) low (rw (parts, mul-assoc)
+    (add-mul-mod-self-left low (256 ^ n) (256 ^ (m - n) * high)))
 
 -- straight-line code: the bytes of v from byte i on, each by one quotient and one remainder
 abbrev pub spread : ℕ → ℕ → ℕ → List ℕ

@@ -28,7 +28,8 @@ none : (n high : ℕ) → high ≡ 0 → 256 ^ n * high ≡ 0
 none n high e = ap (λ (x : ℕ). 256 ^ n * x) e ∙ mul-zero (256 ^ n)
 
 -- between the halves of n bytes, from below and from above, n bytes do not hold it
-far-at : (n m v : ℕ) (t : Bool) → ltb v (256 ^ m / 2) ≡ t → 256 ^ n / 2 ≤ v → v + 256 ^ n / 2 < 256 ^ m → 256 ^ n / 2 ≤ mag (twos m v)
+far-at : (n m v : ℕ) (t : Bool) → ltb v (256 ^ m / 2) ≡ t → 256 ^ n / 2 ≤ v → v + 256 ^ n / 2 < 256 ^ m →
+    256 ^ n / 2 ≤ mag (twos m v)
 far-at n m v true e h k = rw (twos-low m v (ltb-true v (256 ^ m / 2) e)) h
 far-at n m v false e h k = rw (twos-high m v (ltb-false v (256 ^ m / 2) e)) (omega arith)
 
@@ -46,16 +47,20 @@ module _ (n d low high : ℕ) (0<n : 0 < n) (0<d : 0 < d) (fits : low < 256 ^ n)
   pub near-ones : high ≡ 256 ^ d - 1 → 256 ^ n / 2 ≤ low → twos (n + d) (low + 256 ^ n * high) ≡ twos n low
   near-ones o h =
       let half : 256 ^ (n + d) / 2 ≤ low + 256 ^ n * high = omega (arith, ones n d high o, wide n d, even n 0<n) in
-      let same : 256 ^ (n + d) - 1 - (low + 256 ^ n * high) ≡ 256 ^ n - 1 - low = omega (arith, ones n d high o, wide n d) in
+      let same : 256 ^ (n + d) - 1 - (low + 256 ^ n * high) ≡ 256 ^ n - 1 - low =
+      omega (arith, ones n d high o, wide n d)
+      in
       twos-high (n + d) (low + 256 ^ n * high) half ∙ ap negsuc same ∙ sym (twos-high n low h)
 
   -- it does not: the sign bit differs from what is above, or that is mixed
   pub far-zero : high ≡ 0 → 256 ^ n / 2 ≤ low → holdsS n (twos (n + d) (low + 256 ^ n * high)) ≡ false
-  far-zero z h = far n (n + d) (low + 256 ^ n * high) (omega arith) (omega (arith, none n high z, wide n d, above n d 0<d))
+  far-zero z h =
+      far n (n + d) (low + 256 ^ n * high) (omega arith) (omega (arith, none n high z, wide n d, above n d 0<d))
 
   pub far-ones : high ≡ 256 ^ d - 1 → low < 256 ^ n / 2 → holdsS n (twos (n + d) (low + 256 ^ n * high)) ≡ false
   far-ones o h =
-      far n (n + d) (low + 256 ^ n * high) (omega (arith, ones n d high o, above n d 0<d)) (omega (arith, ones n d high o, wide n d))
+      far n (n + d) (low + 256 ^ n * high) (omega (arith, ones n d high o, above n d 0<d))
+      (omega (arith, ones n d high o, wide n d))
 
   pub far-between : 0 < high → high < 256 ^ d - 1 → holdsS n (twos (n + d) (low + 256 ^ n * high)) ≡ false
   far-between p q =

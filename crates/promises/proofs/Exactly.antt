@@ -1,5 +1,5 @@
--- Exact reading succeeds exactly on the atoms that are whole and of a known form, from a budget of at least their charge. What
--- is whole and known is said over the bytes from the atom's place on, by `dictionary.Wholes`.
+-- Exact reading succeeds exactly on the atoms that are whole and of a known form, from a budget of at least their
+-- charge. What is whole and known is said over the bytes from the atom's place on, by `dictionary.Wholes`.
 use mathlib.Core.Path.{_≡_, refl, _∙_, sym, ap}
 use mathlib.Core.Bool.{Bool, true, false, false≢true}
 use mathlib.Core.List.{List, []}
@@ -27,34 +27,53 @@ use Rattle.dictionary.proofs.Forwards.{read-step}
 -- the atom at a place is whole and known, and the budget holds its charge
 pub record Whole (s : List ℕ) (at : ℕ) (budget : Budget) : Type 0 where
   pub header-there : at + headerLength (drop at s) ≤ length s
-  pub body-there : at + headerLength (drop at s) + bodyLength (headerKind (drop at s)) (headerArgument (drop at s)) ≤ length s
+  pub body-there : at + headerLength (drop at s) + bodyLength (headerKind (drop at s)) (headerArgument (drop at s))
+      ≤ length s
   pub form-known : known (headerKind (drop at s)) (headerArgument (drop at s)) ≡ true
   pub afforded : chargeOf (headerKind (drop at s)) (headerArgument (drop at s)) ≤ budget .0
 
 -- a step that skipped it says so
-module _ (s : List ℕ) (at : ℕ) (within : at ≤ length s) (budget : Budget) (place : Place) (rest : Budget) (body : Place) (string : Bool) where
-  skipped-at : (v : Bool) → leb (at + headerLength (drop at s)) (length s) ≡ v → Past s at budget place rest body string → Whole s at budget
+module _ (s : List ℕ) (at : ℕ) (within : at ≤ length s) (budget : Budget) (place : Place) (rest : Budget)
+    (body : Place) (string : Bool) where
+  skipped-at : (v : Bool) → leb (at + headerLength (drop at s)) (length s) ≡ v →
+      Past s at budget place rest body string → Whole s at budget
   skipped-at false h e =
       let x = sym (e .is) ∙ step-cut s at within budget (leb-false (at + headerLength (drop at s)) (length s) h) in
       absurd (false≢true cc)
   skipped-at true h e =
       let l = drop at s in
       let k = leb-true (at + headerLength l) (length s) h in
-      let p = passed (length s) (at + headerLength l) (budget .0) (isString (headerKind l)) (bodyLength (headerKind l) (headerArgument l)) (chargeOf (headerKind l) (headerArgument l)) (unknown (headerKind l) (headerArgument l)) place rest body string (known (headerKind l) (headerArgument l)) (sym (step-body s at within budget k) ∙ e .is) in
+      let p =
+      passed (length s) (at + headerLength l) (budget .0) (isString (headerKind l))
+      (bodyLength (headerKind l) (headerArgument l)) (chargeOf (headerKind l) (headerArgument l))
+      (unknown (headerKind l) (headerArgument l)) place rest body string (known (headerKind l) (headerArgument l))
+      (sym (step-body s at within budget k) ∙ e .is)
+      in
       record { header-there = k; body-there = p .is-whole; form-known = p .is-known; afforded = p .afforded }
 
 -- ONLY IF: what exact reading takes is whole and known
-pub taken-is-whole : (s : List ℕ) (at : ℕ) → at ≤ length s → (budget : Budget) (place : Place) (rest : Budget) (atom : Atom) → atomRead W.ExactLent s at budget [] ≡ A.Read place rest atom → Whole s at budget
+pub taken-is-whole : (s : List ℕ) (at : ℕ) → at ≤ length s → (budget : Budget) (place : Place) (rest : Budget)
+    (atom : Atom) → atomRead W.ExactLent s at budget [] ≡ A.Read place rest atom → Whole s at budget
 taken-is-whole s at within budget place rest atom e =
     let r = read-step s at budget place rest atom e in
-    skipped-at s at within budget place rest (r .body) (r .string) (leb (at + headerLength (drop at s)) (length s)) refl (r .past)
+    skipped-at s at within budget place rest (r .body) (r .string) (leb (at + headerLength (drop at s)) (length s))
+    refl (r .past)
 
 -- an atom that is read, at the place just past it, with the budget less its charge
 pub record Taken (s : List ℕ) (at : ℕ) (budget : Budget) : Type 0 where
   pub atom : Atom
-  pub is-read : atomRead W.ExactLent s at budget [] ≡ A.Read (record { 0 = at + headerLength (drop at s) + bodyLength (headerKind (drop at s)) (headerArgument (drop at s)) }) (record { 0 = budget .0 - chargeOf (headerKind (drop at s)) (headerArgument (drop at s)) }) atom
+  pub is-read : atomRead W.ExactLent s at budget []
+      ≡ A.Read (record {
+        0 = at + headerLength (drop at s) + bodyLength (headerKind (drop at s))
+            (headerArgument (drop at s));
+      }) (record {
+        0 = budget .0 - chargeOf (headerKind (drop at s))
+            (headerArgument (drop at s));
+      }) atom
 
-remembered : (s : List ℕ) (at : ℕ) (budget : Budget) (place : Place) (rest : Budget) (body : Place) (string : Bool) (h : HeaderAnswer) (a : AtomAnswer) → forgotten h a ≡ SK.Past place rest body string → (x : Atom) × (a ≡ A.Read place rest x)
+remembered : (s : List ℕ) (at : ℕ) (budget : Budget) (place : Place) (rest : Budget) (body : Place) (string : Bool)
+    (h : HeaderAnswer) (a : AtomAnswer) → forgotten h a ≡ SK.Past place rest body string →
+    (x : Atom) × (a ≡ A.Read place rest x)
 remembered s at budget place rest body string (H.Read n k x) (A.Read p b y) e = (y, cc)
 remembered s at budget place rest body string (H.Read n k x) (A.Refused p b r) e = absurd (false≢true cc)
 remembered s at budget place rest body string (H.Refused n q) (A.Read p b y) e = (y, cc)
@@ -68,7 +87,13 @@ whole-is-taken s at within budget w =
     let n = bodyLength (headerKind l) (headerArgument l) in
     let c = chargeOf (headerKind l) (headerArgument l) in
     let step = step-body s at within budget (w .header-there)
-    ∙ ap (λ (k : Bool). bodyPast (length s) (at + headerLength l) (budget .0) (isString (headerKind l)) n c k (unknown (headerKind l) (headerArgument l))) (w .form-known)
-    ∙ past-whole (length s) (at + headerLength l) (budget .0) (isString (headerKind l)) n c (unknown (headerKind l) (headerArgument l)) (w .afforded) (w .body-there) in
-    let r = remembered s at budget (record { 0 = at + headerLength l + n }) (record { 0 = budget .0 - c }) (record { 0 = at + headerLength l }) (isString (headerKind l)) (headerRead W.ExactLent s at) (atomRead W.ExactLent s at budget []) step in
+    ∙ ap (λ (k : Bool). bodyPast (length s) (at + headerLength l) (budget .0) (isString (headerKind l)) n c k
+    (unknown (headerKind l) (headerArgument l))) (w .form-known)
+    ∙ past-whole (length s) (at + headerLength l) (budget .0) (isString (headerKind l)) n c
+    (unknown (headerKind l) (headerArgument l)) (w .afforded) (w .body-there) in
+    let r =
+    remembered s at budget (record { 0 = at + headerLength l + n }) (record { 0 = budget .0 - c })
+    (record { 0 = at + headerLength l }) (isString (headerKind l)) (headerRead W.ExactLent s at)
+    (atomRead W.ExactLent s at budget []) step
+    in
     record { atom = r .0; is-read = r .1 }
