@@ -3,5 +3,8 @@ use Rattle.little.proofs.At.{read-ends}
 use Rattle.little.proofs.le1.Statement.{statement}
 use Rattle.little.proofs.le1.Tie as tie
 
+returns : tie.Need-returns
+returns c = search read-ends
+
 pub le1-spec : {M : Type 1} → statement M
-le1-spec = tie.close (tie.spec (λ c. search read-ends) (λ c κs. search read-ends) (λ c. search read-ends))
+le1-spec = tie.close (tie.spec (λ c. search read-ends) (λ c κs. search read-ends) returns)

@@ -3,6 +3,9 @@ use Rattle.little.proofs.At.{read-ends}
 use Rattle.little.proofs.le2.Statement.{statement}
 use Rattle.little.proofs.le2.Tie as tie
 
+returns : tie.Need-returns
+returns c = search read-ends
+
 pub le2-spec : {M : Type 1} → statement M
 le2-spec =
     tie.close
@@ -14,4 +17,4 @@ le2-spec =
     (λ c κs. search read-ends)
     (λ c. search read-ends)
     (λ c. search read-ends)
-    (λ c. search read-ends))
+    returns)

@@ -3,6 +3,9 @@ use Rattle.little.proofs.At.{read-ends}
 use Rattle.little.proofs.le6.Statement.{statement}
 use Rattle.little.proofs.le6.Tie as tie
 
+returns : tie.Need-returns
+returns c = search read-ends
+
 pub le6-spec : {M : Type 1} → statement M
 le6-spec =
     tie.close
@@ -12,4 +15,4 @@ le6-spec =
     (λ c κs. search read-ends)
     (λ c. search read-ends)
     (λ c. search read-ends)
-    (λ c. search read-ends))
+    returns)
