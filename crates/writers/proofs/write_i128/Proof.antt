@@ -3,6 +3,12 @@ use Rattle.writers.proofs.Words.{word-ends}
 use Rattle.writers.proofs.write_i128.Statement.{statement}
 use Rattle.writers.proofs.write_i128.Tie as tie
 
+returns : tie.Need-returns
+returns c = search word-ends
+
+returns-2 : tie.Need-returns-2
+returns-2 c = search word-ends
+
 pub write-i128-spec : {M : Type 1} → statement M
 write-i128-spec =
     tie.close
@@ -11,7 +17,7 @@ write-i128-spec =
     (λ c κs. search word-ends)
     (λ c κs. search word-ends)
     (λ c. search word-ends)
-    (λ c. search word-ends)
+    returns
     (λ c κs. search word-ends)
     (λ c. search word-ends)
-    (λ c. search word-ends))
+    returns-2)

@@ -3,6 +3,12 @@ use Rattle.writers.proofs.Ends.{signed-ends}
 use Rattle.writers.proofs.write_i16.Statement.{statement}
 use Rattle.writers.proofs.write_i16.Tie as tie
 
+returns : tie.Need-returns
+returns c = search signed-ends
+
+returns-2 : tie.Need-returns-2
+returns-2 c = search signed-ends
+
 pub write-i16-spec : {M : Type 1} → statement M
 write-i16-spec =
     tie.close
@@ -12,8 +18,8 @@ write-i16-spec =
     (λ c. search signed-ends)
     (λ c κs. search signed-ends)
     (λ c. search signed-ends)
-    (λ c. search signed-ends)
+    returns
     (λ c κs. search signed-ends)
     (λ c κs. search signed-ends)
     (λ c. search signed-ends)
-    (λ c. search signed-ends))
+    returns-2)

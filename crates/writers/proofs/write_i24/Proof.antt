@@ -6,6 +6,9 @@ use Rattle.writers.proofs.write_i24.Tie as tie
 returns : tie.Need-returns
 returns c = search signed-ends
 
+returns-2 : tie.Need-returns-2
+returns-2 c = search signed-ends
+
 returns-3 : tie.Need-returns-3
 returns-3 c = search signed-ends
 
@@ -19,7 +22,7 @@ write-i24-spec =
     (λ c. search signed-ends)
     (λ c κs. search signed-ends)
     (λ c. search signed-ends)
-    (λ c. search signed-ends)
+    returns-2
     (λ c κs. search signed-ends)
     (λ c κs. search signed-ends)
     (λ c. search signed-ends)

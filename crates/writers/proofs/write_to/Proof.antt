@@ -4,6 +4,14 @@ use Rattle.writers.proofs.Others.{variant-ends}
 use Rattle.writers.proofs.write_to.Statement.{statement}
 use Rattle.writers.proofs.write_to.Tie as tie
 
+returns : tie.Need-returns
+unfolding valueBytes
+returns c = search variant-ends
+
+returns-5 : tie.Need-returns-5
+unfolding valueBytes
+returns-5 c = search variant-ends
+
 pub write-to-spec : {M : Type 1} → statement M
 unfolding valueBytes
 write-to-spec =
@@ -12,11 +20,7 @@ write-to-spec =
     (λ c. search variant-ends)
     (λ c κs. search variant-ends)
     (λ c. search variant-ends)
-    (λ c. search variant-ends)
-    (λ c. search variant-ends)
-    (λ c κs. search variant-ends)
-    (λ c. search variant-ends)
-    (λ c. search variant-ends)
+    returns
     (λ c. search variant-ends)
     (λ c κs. search variant-ends)
     (λ c. search variant-ends)
@@ -29,6 +33,10 @@ write-to-spec =
     (λ c κs. search variant-ends)
     (λ c. search variant-ends)
     (λ c. search variant-ends)
+    (λ c. search variant-ends)
+    (λ c κs. search variant-ends)
+    (λ c. search variant-ends)
+    returns-5
     (λ c. search variant-ends)
     (λ c κs. search variant-ends)
     (λ c. search variant-ends)

@@ -3,13 +3,19 @@ use Rattle.writers.proofs.Ends.{unsigned-ends}
 use Rattle.writers.proofs.write_u32.Statement.{statement}
 use Rattle.writers.proofs.write_u32.Tie as tie
 
+returns : tie.Need-returns
+returns c = search unsigned-ends
+
+returns-2 : tie.Need-returns-2
+returns-2 c = search unsigned-ends
+
 pub write-u32-spec : {M : Type 1} → statement M
 write-u32-spec =
     tie.close
     (tie.spec
     (λ c κs. search unsigned-ends)
     (λ c. search unsigned-ends)
-    (λ c. search unsigned-ends)
+    returns
     (λ c κs. search unsigned-ends)
     (λ c. search unsigned-ends)
-    (λ c. search unsigned-ends))
+    returns-2)

@@ -3,13 +3,19 @@ use Rattle.writers.proofs.Ends.{unsigned-ends}
 use Rattle.writers.proofs.write_u64.Statement.{statement}
 use Rattle.writers.proofs.write_u64.Tie as tie
 
+returns : tie.Need-returns
+returns c = search unsigned-ends
+
+returns-2 : tie.Need-returns-2
+returns-2 c = search unsigned-ends
+
 pub write-u64-spec : {M : Type 1} → statement M
 write-u64-spec =
     tie.close
     (tie.spec
     (λ c κs. search unsigned-ends)
     (λ c. search unsigned-ends)
-    (λ c. search unsigned-ends)
+    returns
     (λ c κs. search unsigned-ends)
     (λ c. search unsigned-ends)
-    (λ c. search unsigned-ends))
+    returns-2)
