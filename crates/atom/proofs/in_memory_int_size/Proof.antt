@@ -7,6 +7,4 @@ pub in-memory-int-size-spec : {M : Type 1} → statement M
 in-memory-int-size-spec =
     tie.close
     (tie.spec
-    (λ c. search charge-ends)
-    (λ c. search charge-ends)
-    (λ c. search charge-ends))
+    (λ c. search charge-ends) (λ c. search charge-ends) (λ c. search charge-ends))

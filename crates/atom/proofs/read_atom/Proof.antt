@@ -10,7 +10,4 @@ pub read-atom-spec : {M : Type 1} → statement M
 read-atom-spec =
     tie.close
     (tie.spec
-    (λ c. search atom-ends)
-    (λ c κs. search atom-ends)
-    (λ c κs. search atom-ends)
-    returns)
+    (λ c. search atom-ends) (λ c κs. search atom-ends) (λ c κs. search atom-ends) returns)

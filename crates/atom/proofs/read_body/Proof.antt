@@ -16,24 +16,8 @@ pub read-body-spec : {M : Type 1} → statement M
 read-body-spec =
     tie.close
     (tie.spec
-    (λ c. search body-ends)
-    (λ c κs. search body-ends)
-    (λ c. search body-ends)
-    (λ c. search body-ends)
-    (λ c κs. search body-ends)
-    returns-2
-    (λ c. search body-ends)
-    (λ c κs. search body-ends)
-    returns-3
-    (λ c. search body-ends)
-    (λ c κs. search body-ends)
-    (λ c. search body-ends)
-    (λ c κs. search body-ends)
-    (λ c. search body-ends)
-    (λ c. search body-ends)
-    (λ c κs. search body-ends)
-    (λ c. search body-ends)
-    (λ c. search body-ends)
-    (λ c κs. search body-ends)
-    (λ c. search body-ends)
-    returns-7)
+    (λ c. search body-ends) (λ c κs. search body-ends) (λ c. search body-ends) (λ c. search body-ends)
+    (λ c κs. search body-ends) returns-2 (λ c. search body-ends) (λ c κs. search body-ends) returns-3
+    (λ c. search body-ends) (λ c κs. search body-ends) (λ c. search body-ends) (λ c κs. search body-ends)
+    (λ c. search body-ends) (λ c. search body-ends) (λ c κs. search body-ends) (λ c. search body-ends)
+    (λ c. search body-ends) (λ c κs. search body-ends) (λ c. search body-ends) returns-7)

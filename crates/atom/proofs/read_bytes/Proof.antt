@@ -13,15 +13,6 @@ pub read-bytes-spec : {M : Type 1} → statement M
 read-bytes-spec =
     tie.close
     (tie.spec
-    (λ c κs. search string-ends)
-    (λ c. search string-ends)
-    (λ c. search string-ends)
-    returns
-    (λ c κs. search string-ends)
-    (λ c. search string-ends)
-    (λ c κs. search string-ends)
-    (λ c. search string-ends)
-    (λ c. search string-ends)
-    (λ c. search string-ends)
-    (λ c. search string-ends)
-    returns-3)
+    (λ c κs. search string-ends) (λ c. search string-ends) (λ c. search string-ends) returns
+    (λ c κs. search string-ends) (λ c. search string-ends) (λ c κs. search string-ends) (λ c. search string-ends)
+    (λ c. search string-ends) (λ c. search string-ends) (λ c. search string-ends) returns-3)

@@ -13,21 +13,8 @@ pub read-float-spec : {M : Type 1} → statement M
 read-float-spec =
     tie.close
     (tie.spec
-    (λ c κs. search number-ends)
-    (λ c κs. search number-ends)
-    (λ c κs. search number-ends)
-    (λ c. search number-ends)
-    (λ c. search number-ends)
-    (λ c. search number-ends)
-    (λ c κs. search number-ends)
-    (λ c. search number-ends)
-    (λ c κs. search number-ends)
-    (λ c. search number-ends)
-    (λ c κs. search number-ends)
-    returns-2
-    (λ c κs. search number-ends)
-    (λ c. search number-ends)
-    (λ c κs. search number-ends)
-    (λ c κs. search number-ends)
-    (λ c. search number-ends)
-    returns-5)
+    (λ c κs. search number-ends) (λ c κs. search number-ends) (λ c κs. search number-ends) (λ c. search number-ends)
+    (λ c. search number-ends) (λ c. search number-ends) (λ c κs. search number-ends) (λ c. search number-ends)
+    (λ c κs. search number-ends) (λ c. search number-ends) (λ c κs. search number-ends) returns-2
+    (λ c κs. search number-ends) (λ c. search number-ends) (λ c κs. search number-ends) (λ c κs. search number-ends)
+    (λ c. search number-ends) returns-5)

@@ -15,10 +15,5 @@ pub answer4-spec : {M : Type 1} → statement M
 answer4-spec =
     tie.close
     (tie.spec
-    (λ c. search needs)
-    (λ c. search needs)
-    slice-write-out-2
-    slice-write-out-3
-    (λ c. search needs)
-    (λ c. search needs)
+    (λ c. search needs) (λ c. search needs) slice-write-out-2 slice-write-out-3 (λ c. search needs) (λ c. search needs)
     (λ c. search needs))

@@ -13,22 +13,8 @@ pub f16-to-f32-bits-spec : {M : Type 1} → statement M
 f16-to-f32-bits-spec =
     tie.close
     (tie.spec
-    (λ c. search widen-ends)
-    (λ c. search widen-ends)
-    (λ c. search widen-ends)
-    (λ c κs. search widen-ends)
-    (λ c. search widen-ends)
-    returns
-    (λ c. search widen-ends)
-    (λ c. search widen-ends)
-    (λ c. search widen-ends)
-    (λ c. search widen-ends)
-    (λ c. search widen-ends)
-    (λ c. search widen-ends)
-    (λ c. search widen-ends)
-    (λ c. search widen-ends)
-    (λ c. search widen-ends)
-    (λ c. search widen-ends)
-    (λ c. search widen-ends)
-    (λ c. search widen-ends)
-    returns-4)
+    (λ c. search widen-ends) (λ c. search widen-ends) (λ c. search widen-ends) (λ c κs. search widen-ends)
+    (λ c. search widen-ends) returns (λ c. search widen-ends) (λ c. search widen-ends) (λ c. search widen-ends)
+    (λ c. search widen-ends) (λ c. search widen-ends) (λ c. search widen-ends) (λ c. search widen-ends)
+    (λ c. search widen-ends) (λ c. search widen-ends) (λ c. search widen-ends) (λ c. search widen-ends)
+    (λ c. search widen-ends) returns-4)

@@ -13,26 +13,9 @@ pub f32-to-f16-bits-spec : {M : Type 1} → statement M
 f32-to-f16-bits-spec =
     tie.close
     (tie.spec
-    (λ c. search to-half-ends)
-    (λ c. search to-half-ends)
-    (λ c. search to-half-ends)
-    (λ c. search to-half-ends)
-    (λ c. search to-half-ends)
-    (λ c. search to-half-ends)
-    returns
-    (λ c. search to-half-ends)
-    (λ c. search to-half-ends)
-    (λ c. search to-half-ends)
-    (λ c. search to-half-ends)
-    (λ c. search to-half-ends)
-    (λ c. search to-half-ends)
-    (λ c. search to-half-ends)
-    (λ c. search to-half-ends)
-    (λ c. search to-half-ends)
-    (λ c. search to-half-ends)
-    (λ c. search to-half-ends)
-    (λ c. search to-half-ends)
-    (λ c. search to-half-ends)
-    (λ c. search to-half-ends)
-    returns-7
-    (λ c. search to-half-ends))
+    (λ c. search to-half-ends) (λ c. search to-half-ends) (λ c. search to-half-ends) (λ c. search to-half-ends)
+    (λ c. search to-half-ends) (λ c. search to-half-ends) returns (λ c. search to-half-ends) (λ c. search to-half-ends)
+    (λ c. search to-half-ends) (λ c. search to-half-ends) (λ c. search to-half-ends) (λ c. search to-half-ends)
+    (λ c. search to-half-ends) (λ c. search to-half-ends) (λ c. search to-half-ends) (λ c. search to-half-ends)
+    (λ c. search to-half-ends) (λ c. search to-half-ends) (λ c. search to-half-ends) (λ c. search to-half-ends)
+    returns-7 (λ c. search to-half-ends))

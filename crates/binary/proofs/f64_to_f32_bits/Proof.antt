@@ -19,26 +19,9 @@ pub f64-to-f32-bits-spec : {M : Type 1} → statement M
 f64-to-f32-bits-spec =
     tie.close
     (tie.spec
-    (λ c. search to-single-ends)
-    (λ c. search to-single-ends)
-    (λ c. search to-single-ends)
-    (λ c. search to-single-ends)
-    (λ c. search to-single-ends)
-    (λ c. search to-single-ends)
-    returns
-    (λ c. search to-single-ends)
-    (λ c. search to-single-ends)
-    (λ c. search to-single-ends)
-    returns-3
-    (λ c. search to-single-ends)
-    (λ c. search to-single-ends)
-    (λ c. search to-single-ends)
-    (λ c. search to-single-ends)
-    (λ c. search to-single-ends)
-    (λ c. search to-single-ends)
-    (λ c. search to-single-ends)
-    returns-5
-    (λ c. search to-single-ends)
-    (λ c. search to-single-ends)
-    returns-7
-    (λ c. search to-single-ends))
+    (λ c. search to-single-ends) (λ c. search to-single-ends) (λ c. search to-single-ends) (λ c. search to-single-ends)
+    (λ c. search to-single-ends) (λ c. search to-single-ends) returns (λ c. search to-single-ends)
+    (λ c. search to-single-ends) (λ c. search to-single-ends) returns-3 (λ c. search to-single-ends)
+    (λ c. search to-single-ends) (λ c. search to-single-ends) (λ c. search to-single-ends) (λ c. search to-single-ends)
+    (λ c. search to-single-ends) (λ c. search to-single-ends) returns-5 (λ c. search to-single-ends)
+    (λ c. search to-single-ends) returns-7 (λ c. search to-single-ends))

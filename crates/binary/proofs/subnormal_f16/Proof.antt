@@ -9,11 +9,5 @@ pub subnormal-f16-spec : {M : Type 1} → statement M
 subnormal-f16-spec =
     tie.close
     (tie.spec
-    (λ c. search raise-ends)
-    (λ c. search raise-ends)
-    (λ c. search raise-ends)
-    (λ c. search raise-ends)
-    (λ c. search raise-ends)
-    (λ c. search raise-ends)
-    (λ c. search raise-ends)
-    (λ c. search raise-ends))
+    (λ c. search raise-ends) (λ c. search raise-ends) (λ c. search raise-ends) (λ c. search raise-ends)
+    (λ c. search raise-ends) (λ c. search raise-ends) (λ c. search raise-ends) (λ c. search raise-ends))

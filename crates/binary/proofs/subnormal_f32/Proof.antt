@@ -9,13 +9,6 @@ pub subnormal-f32-spec : {M : Type 1} → statement M
 subnormal-f32-spec =
     tie.close
     (tie.spec
-    (λ c. search raise-ends)
-    (λ c. search raise-ends)
-    (λ c. search raise-ends)
-    (λ c. search raise-ends)
-    (λ c. search raise-ends)
-    (λ c. search raise-ends)
-    (λ c. search raise-ends)
-    (λ c. search raise-ends)
-    (λ c. search raise-ends)
-    (λ c. search raise-ends))
+    (λ c. search raise-ends) (λ c. search raise-ends) (λ c. search raise-ends) (λ c. search raise-ends)
+    (λ c. search raise-ends) (λ c. search raise-ends) (λ c. search raise-ends) (λ c. search raise-ends)
+    (λ c. search raise-ends) (λ c. search raise-ends))

@@ -13,12 +13,5 @@ pub as-float-spec : {M : Type 1} → statement M
 as-float-spec =
     tie.close
     (tie.spec
-    (λ c κs. search either-float)
-    (λ c. search either-float)
-    (λ c. search either-float)
-    (λ c. search either-float)
-    (λ c κs. search either-float)
-    (λ c. search either-float)
-    returns-2
-    (λ c. search either-float)
-    returns-3)
+    (λ c κs. search either-float) (λ c. search either-float) (λ c. search either-float) (λ c. search either-float)
+    (λ c κs. search either-float) (λ c. search either-float) returns-2 (λ c. search either-float) returns-3)

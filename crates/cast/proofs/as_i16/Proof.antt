@@ -7,16 +7,7 @@ pub as-i16-spec : {M : Type 1} → statement M
 as-i16-spec =
     tie.close
     (tie.spec
-    (λ c. search cast-arms)
-    (λ c. search cast-arms)
-    (λ c. search cast-arms)
-    (λ c. search cast-arms)
-    (λ c. search cast-arms)
-    (λ c. search cast-arms)
-    (λ c. search cast-arms)
-    (λ c. search cast-arms)
-    (λ c. search cast-arms)
-    (λ c. search cast-arms)
-    (λ c. search cast-arms)
-    (λ c. search cast-arms)
+    (λ c. search cast-arms) (λ c. search cast-arms) (λ c. search cast-arms) (λ c. search cast-arms)
+    (λ c. search cast-arms) (λ c. search cast-arms) (λ c. search cast-arms) (λ c. search cast-arms)
+    (λ c. search cast-arms) (λ c. search cast-arms) (λ c. search cast-arms) (λ c. search cast-arms)
     (λ c. search cast-arms))

@@ -7,17 +7,7 @@ pub as-u16-spec : {M : Type 1} → statement M
 as-u16-spec =
     tie.close
     (tie.spec
-    (λ c. search cast-arms)
-    (λ c. search cast-arms)
-    (λ c. search cast-arms)
-    (λ c. search cast-arms)
-    (λ c. search cast-arms)
-    (λ c. search cast-arms)
-    (λ c. search cast-arms)
-    (λ c. search cast-arms)
-    (λ c. search cast-arms)
-    (λ c. search cast-arms)
-    (λ c. search cast-arms)
-    (λ c. search cast-arms)
-    (λ c. search cast-arms)
-    (λ c. search cast-arms))
+    (λ c. search cast-arms) (λ c. search cast-arms) (λ c. search cast-arms) (λ c. search cast-arms)
+    (λ c. search cast-arms) (λ c. search cast-arms) (λ c. search cast-arms) (λ c. search cast-arms)
+    (λ c. search cast-arms) (λ c. search cast-arms) (λ c. search cast-arms) (λ c. search cast-arms)
+    (λ c. search cast-arms) (λ c. search cast-arms))

@@ -14,25 +14,9 @@ pub equal-unsigned-spec : {M : Type 1} → statement M
 equal-unsigned-spec =
     tie.close
     (tie.spec
-    (λ c. search variant-ends)
-    (λ c. search variant-ends)
-    (λ c. search variant-ends)
-    (λ c. search variant-ends)
-    (λ c. search variant-ends)
-    (λ c. search variant-ends)
-    returns-3
-    (λ c. search variant-ends)
-    (λ c. search variant-ends)
-    (λ c. search variant-ends)
-    (λ c. search variant-ends)
-    (λ c. search variant-ends)
-    (λ c. search variant-ends)
-    (λ c. search variant-ends)
-    (λ c. search variant-ends)
-    (λ c. search variant-ends)
-    (λ c. search variant-ends)
-    (λ c. search variant-ends)
-    (λ c κs. search variant-ends)
-    returns-9
-    (λ c. search variant-ends)
-    (λ c. search variant-ends))
+    (λ c. search variant-ends) (λ c. search variant-ends) (λ c. search variant-ends) (λ c. search variant-ends)
+    (λ c. search variant-ends) (λ c. search variant-ends) returns-3 (λ c. search variant-ends)
+    (λ c. search variant-ends) (λ c. search variant-ends) (λ c. search variant-ends) (λ c. search variant-ends)
+    (λ c. search variant-ends) (λ c. search variant-ends) (λ c. search variant-ends) (λ c. search variant-ends)
+    (λ c. search variant-ends) (λ c. search variant-ends) (λ c κs. search variant-ends) returns-9
+    (λ c. search variant-ends) (λ c. search variant-ends))

@@ -14,14 +14,6 @@ pub from-i128-spec : {M : Type 1} → statement M
 from-i128-spec =
     tie.close
     (tie.spec
-    (λ c. search wide-from-ends)
-    (λ c κs. search wide-from-ends)
-    (λ c. search wide-from-ends)
-    (λ c κs. search wide-from-ends)
-    (λ c. search wide-from-ends)
-    (λ c. search wide-from-ends)
-    (λ c. search wide-from-ends)
-    (λ c. search wide-from-ends)
-    (λ c κs. search wide-from-ends)
-    returns-4
-    returns-5)
+    (λ c. search wide-from-ends) (λ c κs. search wide-from-ends) (λ c. search wide-from-ends)
+    (λ c κs. search wide-from-ends) (λ c. search wide-from-ends) (λ c. search wide-from-ends)
+    (λ c. search wide-from-ends) (λ c. search wide-from-ends) (λ c κs. search wide-from-ends) returns-4 returns-5)

@@ -13,11 +13,5 @@ pub from-i64-spec : {M : Type 1} → statement M
 from-i64-spec =
     tie.close
     (tie.spec
-    returns
-    (λ c. search signed-from)
-    (λ c κs. search signed-from)
-    (λ c. search signed-from)
-    (λ c. search signed-from)
-    (λ c κs. search signed-from)
-    returns-3
-    (λ c. search signed-from))
+    returns (λ c. search signed-from) (λ c κs. search signed-from) (λ c. search signed-from) (λ c. search signed-from)
+    (λ c κs. search signed-from) returns-3 (λ c. search signed-from))

@@ -7,7 +7,4 @@ pub wide-of-i64-spec : {M : Type 1} → statement M
 wide-of-i64-spec =
     tie.close
     (tie.spec
-    (λ c. search wide-of-ends)
-    (λ c. search wide-of-ends)
-    (λ c. search wide-of-ends)
-    (λ c. search wide-of-ends))
+    (λ c. search wide-of-ends) (λ c. search wide-of-ends) (λ c. search wide-of-ends) (λ c. search wide-of-ends))

@@ -21,16 +21,6 @@ pub count-letters-spec : {M : Type 1} → statement M
 count-letters-spec =
     tie.close
     (tie.spec
-    Inv-loop
-    μ-loop
-    loop-holds
-    (λ c κs. search counting-ends)
-    (λ c. search counting-ends)
-    (λ c. search counting-ends)
-    (λ c. search counting-ends)
-    (λ c κs. search counting-ends)
-    (λ c. search counting-ends)
-    (λ c. search counting-ends)
-    (λ c. search counting-ends)
-    loop-again
-    (λ c. search counting-ends))
+    Inv-loop μ-loop loop-holds (λ c κs. search counting-ends) (λ c. search counting-ends) (λ c. search counting-ends)
+    (λ c. search counting-ends) (λ c κs. search counting-ends) (λ c. search counting-ends) (λ c. search counting-ends)
+    (λ c. search counting-ends) loop-again (λ c. search counting-ends))

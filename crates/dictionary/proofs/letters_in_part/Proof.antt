@@ -18,13 +18,5 @@ pub letters-in-part-spec : {M : Type 1} → statement M
 letters-in-part-spec =
     tie.close
     (tie.spec
-    Inv-loop
-    μ-loop
-    loop-holds
-    (λ c. search counting-ends)
-    (λ c κs. search counting-ends)
-    (λ c. search counting-ends)
-    (λ c. search counting-ends)
-    (λ c. search counting-ends)
-    (λ c. search counting-ends)
-    (λ c. search counting-ends))
+    Inv-loop μ-loop loop-holds (λ c. search counting-ends) (λ c κs. search counting-ends) (λ c. search counting-ends)
+    (λ c. search counting-ends) (λ c. search counting-ends) (λ c. search counting-ends) (λ c. search counting-ends))

@@ -7,9 +7,5 @@ pub letters-of-spec : {M : Type 1} → statement M
 letters-of-spec =
     tie.close
     (tie.spec
-    (λ c. search part-ends)
-    (λ c. search part-ends)
-    (λ c. search part-ends)
-    (λ c κs. search part-ends)
-    (λ c. search part-ends)
-    (λ c. search part-ends))
+    (λ c. search part-ends) (λ c. search part-ends) (λ c. search part-ends) (λ c κs. search part-ends)
+    (λ c. search part-ends) (λ c. search part-ends))

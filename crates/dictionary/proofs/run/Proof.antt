@@ -28,21 +28,7 @@ pub run-spec : {M : Type 1} → statement M
 run-spec =
     tie.close
     (tie.spec
-    Inv-loop
-    μ-loop
-    (λ c. search run-laws)
-    (λ c κs. search run-laws)
-    (λ c. search run-laws)
-    (λ c. search run-laws)
-    (λ c. search run-laws)
-    (λ c. search run-laws)
-    (λ c. search run-laws)
-    loop-again
-    (λ c κs. search run-laws)
-    (λ c. search run-laws)
-    (λ c. search run-laws)
-    (λ c. search run-laws)
-    loop-again-2
-    (λ c. search run-laws)
-    returns
+    Inv-loop μ-loop (λ c. search run-laws) (λ c κs. search run-laws) (λ c. search run-laws) (λ c. search run-laws)
+    (λ c. search run-laws) (λ c. search run-laws) (λ c. search run-laws) loop-again (λ c κs. search run-laws)
+    (λ c. search run-laws) (λ c. search run-laws) (λ c. search run-laws) loop-again-2 (λ c. search run-laws) returns
     returns-2)

@@ -7,18 +7,7 @@ pub short-end-spec : {M : Type 1} → statement M
 short-end-spec =
     tie.close
     (tie.spec
-    (λ c. search short-ends)
-    (λ c. search short-ends)
-    (λ c. search short-ends)
-    (λ c. search short-ends)
-    (λ c. search short-ends)
-    (λ c. search short-ends)
-    (λ c. search short-ends)
-    (λ c. search short-ends)
-    (λ c. search short-ends)
-    (λ c. search short-ends)
-    (λ c. search short-ends)
-    (λ c. search short-ends)
-    (λ c. search short-ends)
-    (λ c. search short-ends)
-    (λ c. search short-ends))
+    (λ c. search short-ends) (λ c. search short-ends) (λ c. search short-ends) (λ c. search short-ends)
+    (λ c. search short-ends) (λ c. search short-ends) (λ c. search short-ends) (λ c. search short-ends)
+    (λ c. search short-ends) (λ c. search short-ends) (λ c. search short-ends) (λ c. search short-ends)
+    (λ c. search short-ends) (λ c. search short-ends) (λ c. search short-ends))

@@ -13,24 +13,8 @@ pub skip-body-spec : {M : Type 1} → statement M
 skip-body-spec =
     tie.close
     (tie.spec
-    (λ c. search kind-ends)
-    (λ c. search kind-ends)
-    (λ c. search kind-ends)
-    (λ c. search kind-ends)
-    (λ c. search kind-ends)
-    (λ c. search kind-ends)
-    (λ c. search kind-ends)
-    returns-4
-    returns-5
-    (λ c κs. search kind-ends)
-    (λ c κs. search kind-ends)
-    (λ c κs. search kind-ends)
-    (λ c. search kind-ends)
-    (λ c. search kind-ends)
-    (λ c κs. search kind-ends)
-    (λ c κs. search kind-ends)
-    (λ c κs. search kind-ends)
-    (λ c. search kind-ends)
-    (λ c. search kind-ends)
-    (λ c κs. search kind-ends)
-    (λ c. search kind-ends))
+    (λ c. search kind-ends) (λ c. search kind-ends) (λ c. search kind-ends) (λ c. search kind-ends)
+    (λ c. search kind-ends) (λ c. search kind-ends) (λ c. search kind-ends) returns-4 returns-5
+    (λ c κs. search kind-ends) (λ c κs. search kind-ends) (λ c κs. search kind-ends) (λ c. search kind-ends)
+    (λ c. search kind-ends) (λ c κs. search kind-ends) (λ c κs. search kind-ends) (λ c κs. search kind-ends)
+    (λ c. search kind-ends) (λ c. search kind-ends) (λ c κs. search kind-ends) (λ c. search kind-ends))

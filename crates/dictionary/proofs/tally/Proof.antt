@@ -29,33 +29,10 @@ pub tally-spec : {M : Type 1} → statement M
 tally-spec =
     tie.close
     (tie.spec
-    Inv-loop
-    μ-loop
-    returns
-    (λ c. search tally-laws)
-    (λ c κs. search tally-laws)
-    (λ c. search tally-laws)
-    (λ c. search tally-laws)
-    (λ c. search tally-laws)
-    (λ c. search tally-laws)
-    (λ c. search tally-laws)
-    (λ c. search tally-laws)
-    (λ c κs. search tally-laws)
-    (λ c. search tally-laws)
-    (λ c. search tally-laws)
-    (λ c. search tally-laws)
-    (λ c κs. search tally-laws)
-    (λ c. search tally-laws)
-    (λ c. search tally-laws)
-    (λ c. search tally-laws)
-    (λ c. search tally-laws)
-    (λ c. search tally-laws)
-    (λ c. search tally-laws)
-    (λ c κs. search tally-laws)
-    (λ c. search tally-laws)
-    (λ c. search tally-laws)
-    loop-again-2
-    (λ c. search tally-laws)
-    returns-2
-    (λ c κs. search tally-laws)
-    returns-3)
+    Inv-loop μ-loop returns (λ c. search tally-laws) (λ c κs. search tally-laws) (λ c. search tally-laws)
+    (λ c. search tally-laws) (λ c. search tally-laws) (λ c. search tally-laws) (λ c. search tally-laws)
+    (λ c. search tally-laws) (λ c κs. search tally-laws) (λ c. search tally-laws) (λ c. search tally-laws)
+    (λ c. search tally-laws) (λ c κs. search tally-laws) (λ c. search tally-laws) (λ c. search tally-laws)
+    (λ c. search tally-laws) (λ c. search tally-laws) (λ c. search tally-laws) (λ c. search tally-laws)
+    (λ c κs. search tally-laws) (λ c. search tally-laws) (λ c. search tally-laws) loop-again-2 (λ c. search tally-laws)
+    returns-2 (λ c κs. search tally-laws) returns-3)

@@ -7,8 +7,5 @@ pub pot-f64-as-integer-spec : {M : Type 1} → statement M
 pot-f64-as-integer-spec =
     tie.close
     (tie.spec
-    (λ c κs. search say-ends)
-    (λ c κs. search say-ends)
-    (λ c κs. search say-ends)
-    (λ c. search say-ends)
+    (λ c κs. search say-ends) (λ c κs. search say-ends) (λ c κs. search say-ends) (λ c. search say-ends)
     (λ c. search say-ends))

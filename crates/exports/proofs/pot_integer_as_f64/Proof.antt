@@ -7,13 +7,6 @@ pub pot-integer-as-f64-spec : {M : Type 1} → statement M
 pot-integer-as-f64-spec =
     tie.close
     (tie.spec
-    (λ c κs. search cast-ends)
-    (λ c. search cast-ends)
-    (λ c κs. search cast-ends)
-    (λ c κs. search cast-ends)
-    (λ c. search cast-ends)
-    (λ c. search cast-ends)
-    (λ c. search cast-ends)
-    (λ c κs. search cast-ends)
-    (λ c. search cast-ends)
-    (λ c. search cast-ends))
+    (λ c κs. search cast-ends) (λ c. search cast-ends) (λ c κs. search cast-ends) (λ c κs. search cast-ends)
+    (λ c. search cast-ends) (λ c. search cast-ends) (λ c. search cast-ends) (λ c κs. search cast-ends)
+    (λ c. search cast-ends) (λ c. search cast-ends))

@@ -7,13 +7,6 @@ pub pot-integer-cast-spec : {M : Type 1} → statement M
 pot-integer-cast-spec =
     tie.close
     (tie.spec
-    (λ c κs. search cast-ends)
-    (λ c. search cast-ends)
-    (λ c κs. search cast-ends)
-    (λ c κs. search cast-ends)
-    (λ c. search cast-ends)
-    (λ c. search cast-ends)
-    (λ c. search cast-ends)
-    (λ c κs. search cast-ends)
-    (λ c. search cast-ends)
-    (λ c. search cast-ends))
+    (λ c κs. search cast-ends) (λ c. search cast-ends) (λ c κs. search cast-ends) (λ c κs. search cast-ends)
+    (λ c. search cast-ends) (λ c. search cast-ends) (λ c. search cast-ends) (λ c κs. search cast-ends)
+    (λ c. search cast-ends) (λ c. search cast-ends))

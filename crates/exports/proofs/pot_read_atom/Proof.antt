@@ -10,8 +10,4 @@ pub pot-read-atom-spec : {M : Type 1} → statement M
 pot-read-atom-spec =
     tie.close
     (tie.spec
-    (λ c. search say-ends)
-    (λ c κs. search say-ends)
-    (λ c κs. search say-ends)
-    (λ c. search say-ends)
-    returns)
+    (λ c. search say-ends) (λ c κs. search say-ends) (λ c κs. search say-ends) (λ c. search say-ends) returns)

@@ -10,7 +10,4 @@ pub pot-read-header-spec : {M : Type 1} → statement M
 pot-read-header-spec =
     tie.close
     (tie.spec
-    (λ c κs. search say-ends)
-    (λ c κs. search say-ends)
-    (λ c. search say-ends)
-    returns)
+    (λ c κs. search say-ends) (λ c κs. search say-ends) (λ c. search say-ends) returns)

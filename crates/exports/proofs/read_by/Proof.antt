@@ -7,9 +7,6 @@ pub read-by-spec : {M : Type 1} → statement M
 read-by-spec =
     tie.close
     (tie.spec
-    (λ c. (search write-ends, (search write-ends, search write-ends)))
-    (λ c κs. search write-ends)
-    (λ c κs. search write-ends)
-    (λ c. search write-ends)
-    (λ c. search write-ends)
+    (λ c. (search write-ends, (search write-ends, search write-ends))) (λ c κs. search write-ends)
+    (λ c κs. search write-ends) (λ c. search write-ends) (λ c. search write-ends)
     (λ c. (search write-ends, (search write-ends, search write-ends))))

@@ -7,7 +7,4 @@ pub allowed-spec : {M : Type 1} → statement M
 allowed-spec =
     tie.close
     (tie.spec
-    (λ c. search allowed-ends)
-    (λ c. search allowed-ends)
-    (λ c. search allowed-ends)
-    (λ c. search allowed-ends))
+    (λ c. search allowed-ends) (λ c. search allowed-ends) (λ c. search allowed-ends) (λ c. search allowed-ends))

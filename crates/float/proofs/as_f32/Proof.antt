@@ -13,8 +13,4 @@ pub as-f32-spec : {M : Type 1} → statement M
 as-f32-spec =
     tie.close
     (tie.spec
-    (λ c. search value-ends)
-    (λ c κs. search value-ends)
-    returns
-    (λ c. search value-ends)
-    returns-2)
+    (λ c. search value-ends) (λ c κs. search value-ends) returns (λ c. search value-ends) returns-2)

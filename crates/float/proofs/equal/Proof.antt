@@ -10,7 +10,4 @@ pub equal-spec : {M : Type 1} → statement M
 equal-spec =
     tie.close
     (tie.spec
-    (λ c κs. search value-ends)
-    (λ c κs. search value-ends)
-    (λ c κs. search value-ends)
-    returns)
+    (λ c κs. search value-ends) (λ c κs. search value-ends) (λ c κs. search value-ends) returns)

@@ -7,12 +7,6 @@ pub float-of-spec : {M : Type 1} → statement M
 float-of-spec =
     tie.close
     (tie.spec
-    (λ c. search count-ends)
-    (λ c κs. search count-ends)
-    (λ c κs. search count-ends)
-    (λ c. search count-ends)
-    (λ c. search count-ends)
-    (λ c κs. search count-ends)
-    (λ c. search count-ends)
-    (λ c κs. search count-ends)
+    (λ c. search count-ends) (λ c κs. search count-ends) (λ c κs. search count-ends) (λ c. search count-ends)
+    (λ c. search count-ends) (λ c κs. search count-ends) (λ c. search count-ends) (λ c κs. search count-ends)
     (λ c. search count-ends))

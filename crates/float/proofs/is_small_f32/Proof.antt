@@ -12,7 +12,5 @@ unfolding Ieee.nanBits Ieee.ofBits
 is-small-f32-spec =
     tie.close
     (tie.spec
-    (λ c. tt)
-    (λ c. tt)
-    (λ c. search (both 22 (lit≤ tt), fine Ieee.binary32, needs))
+    (λ c. tt) (λ c. tt) (λ c. search (both 22 (lit≤ tt), fine Ieee.binary32, needs))
     (λ c. search (neither 22 (lit≤ tt), fine Ieee.binary32, needs)))

@@ -12,7 +12,5 @@ unfolding Ieee.nanBits Ieee.ofBits
 is-small-f64-spec =
     tie.close
     (tie.spec
-    (λ c. tt)
-    (λ c. tt)
-    (λ c. search (both 51 (lit≤ tt), fine Ieee.binary64, needs))
+    (λ c. tt) (λ c. tt) (λ c. search (both 51 (lit≤ tt), fine Ieee.binary64, needs))
     (λ c. search (neither 51 (lit≤ tt), fine Ieee.binary64, needs)))

@@ -13,9 +13,5 @@ pub is-zero-spec : {M : Type 1} → statement M
 is-zero-spec =
     tie.close
     (tie.spec
-    (λ c. search value-ends)
-    (λ c κs. search value-ends)
-    returns
-    (λ c. search value-ends)
-    (λ c κs. search value-ends)
+    (λ c. search value-ends) (λ c κs. search value-ends) returns (λ c. search value-ends) (λ c κs. search value-ends)
     returns-2)

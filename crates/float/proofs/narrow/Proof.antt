@@ -7,10 +7,5 @@ pub narrow-spec : {M : Type 1} → statement M
 narrow-spec =
     tie.close
     (tie.spec
-    (λ c κs. search value-ends)
-    (λ c κs. search value-ends)
-    (λ c. search value-ends)
-    (λ c κs. search value-ends)
-    (λ c. search value-ends)
-    (λ c. search value-ends)
-    (λ c. search value-ends))
+    (λ c κs. search value-ends) (λ c κs. search value-ends) (λ c. search value-ends) (λ c κs. search value-ends)
+    (λ c. search value-ends) (λ c. search value-ends) (λ c. search value-ends))

@@ -7,9 +7,5 @@ pub stored-bits-spec : {M : Type 1} → statement M
 stored-bits-spec =
     tie.close
     (tie.spec
-    (λ c κs. search count-ends)
-    (λ c. search count-ends)
-    (λ c κs. search count-ends)
-    (λ c. search count-ends)
-    (λ c κs. search count-ends)
-    (λ c. search count-ends))
+    (λ c κs. search count-ends) (λ c. search count-ends) (λ c κs. search count-ends) (λ c. search count-ends)
+    (λ c κs. search count-ends) (λ c. search count-ends))

@@ -13,13 +13,6 @@ pub write-f32-bits-spec : {M : Type 1} → statement M
 write-f32-bits-spec =
     tie.close
     (tie.spec
-    (λ c κs. search write-ends)
-    (λ c. search write-ends)
-    (λ c. search write-ends)
-    (λ c κs. search write-ends)
-    (λ c. search write-ends)
-    returns
-    (λ c. search write-ends)
-    (λ c κs. search write-ends)
-    (λ c. search write-ends)
+    (λ c κs. search write-ends) (λ c. search write-ends) (λ c. search write-ends) (λ c κs. search write-ends)
+    (λ c. search write-ends) returns (λ c. search write-ends) (λ c κs. search write-ends) (λ c. search write-ends)
     returns-2)

@@ -13,12 +13,5 @@ pub write-f64-bits-spec : {M : Type 1} → statement M
 write-f64-bits-spec =
     tie.close
     (tie.spec
-    (λ c κs. search write-ends)
-    (λ c. search write-ends)
-    (λ c κs. search write-ends)
-    (λ c. search write-ends)
-    returns
-    (λ c. search write-ends)
-    (λ c κs. search write-ends)
-    (λ c. search write-ends)
-    returns-2)
+    (λ c κs. search write-ends) (λ c. search write-ends) (λ c κs. search write-ends) (λ c. search write-ends) returns
+    (λ c. search write-ends) (λ c κs. search write-ends) (λ c. search write-ends) returns-2)

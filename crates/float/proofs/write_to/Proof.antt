@@ -13,11 +13,5 @@ pub write-to-spec : {M : Type 1} → statement M
 write-to-spec =
     tie.close
     (tie.spec
-    (λ c. search write-ends)
-    (λ c κs. search write-ends)
-    (λ c. search write-ends)
-    returns
-    (λ c. search write-ends)
-    (λ c κs. search write-ends)
-    (λ c. search write-ends)
-    returns-2)
+    (λ c. search write-ends) (λ c κs. search write-ends) (λ c. search write-ends) returns (λ c. search write-ends)
+    (λ c κs. search write-ends) (λ c. search write-ends) returns-2)

@@ -7,12 +7,6 @@ pub clamp-i32-spec : {M : Type 1} → statement M
 clamp-i32-spec =
     tie.close
     (tie.spec
-    (λ c. search clamp-ends)
-    (λ c κs. search clamp-ends)
-    (λ c. search clamp-ends)
-    (λ c. search clamp-ends)
-    (λ c κs. search clamp-ends)
-    (λ c. search clamp-ends)
-    (λ c κs. search clamp-ends)
-    (λ c κs. search clamp-ends)
+    (λ c. search clamp-ends) (λ c κs. search clamp-ends) (λ c. search clamp-ends) (λ c. search clamp-ends)
+    (λ c κs. search clamp-ends) (λ c. search clamp-ends) (λ c κs. search clamp-ends) (λ c κs. search clamp-ends)
     (λ c. search clamp-ends))

@@ -7,12 +7,6 @@ pub clamp-i64-spec : {M : Type 1} → statement M
 clamp-i64-spec =
     tie.close
     (tie.spec
-    (λ c. search clamp-ends)
-    (λ c κs. search clamp-ends)
-    (λ c. search clamp-ends)
-    (λ c. search clamp-ends)
-    (λ c κs. search clamp-ends)
-    (λ c. search clamp-ends)
-    (λ c κs. search clamp-ends)
-    (λ c κs. search clamp-ends)
+    (λ c. search clamp-ends) (λ c κs. search clamp-ends) (λ c. search clamp-ends) (λ c. search clamp-ends)
+    (λ c κs. search clamp-ends) (λ c. search clamp-ends) (λ c κs. search clamp-ends) (λ c κs. search clamp-ends)
     (λ c. search clamp-ends))

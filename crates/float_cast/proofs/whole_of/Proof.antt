@@ -7,13 +7,6 @@ pub whole-of-spec : {M : Type 1} → statement M
 whole-of-spec =
     tie.close
     (tie.spec
-    (λ c. search whole-ends)
-    (λ c. search whole-ends)
-    (λ c. search whole-ends)
-    (λ c. search whole-ends)
-    (λ c. search whole-ends)
-    (λ c. search whole-ends)
-    (λ c. search whole-ends)
-    (λ c. search whole-ends)
-    (λ c. search whole-ends)
-    (λ c. search whole-ends))
+    (λ c. search whole-ends) (λ c. search whole-ends) (λ c. search whole-ends) (λ c. search whole-ends)
+    (λ c. search whole-ends) (λ c. search whole-ends) (λ c. search whole-ends) (λ c. search whole-ends)
+    (λ c. search whole-ends) (λ c. search whole-ends))

@@ -13,8 +13,4 @@ pub byte-at-spec : {M : Type 1} → statement M
 byte-at-spec =
     tie.close
     (tie.spec
-    (λ c. search part-ends)
-    (λ c. search part-ends)
-    cast-result
-    returns
-    (λ c. search part-ends))
+    (λ c. search part-ends) (λ c. search part-ends) cast-result returns (λ c. search part-ends))

@@ -7,7 +7,4 @@ pub header-length-spec : {M : Type 1} → statement M
 header-length-spec =
     tie.close
     (tie.spec
-    (λ c. search length-ends)
-    (λ c κs. search length-ends)
-    (λ c. search length-ends)
-    (λ c. search length-ends))
+    (λ c. search length-ends) (λ c κs. search length-ends) (λ c. search length-ends) (λ c. search length-ends))

@@ -7,8 +7,5 @@ pub kind-of-spec : {M : Type 1} → statement M
 kind-of-spec =
     tie.close
     (tie.spec
-    (λ c κs. search part-ends)
-    (λ c. search part-ends)
-    (λ c. search part-ends)
-    (λ c. search part-ends)
+    (λ c κs. search part-ends) (λ c. search part-ends) (λ c. search part-ends) (λ c. search part-ends)
     (λ c. search part-ends))

@@ -7,7 +7,4 @@ pub later-end-spec : {M : Type 1} → statement M
 later-end-spec =
     tie.close
     (tie.spec
-    (λ c. search part-ends)
-    (λ c. search part-ends)
-    (λ c. search part-ends)
-    (λ c. search part-ends))
+    (λ c. search part-ends) (λ c. search part-ends) (λ c. search part-ends) (λ c. search part-ends))

@@ -13,10 +13,5 @@ pub later-length-spec : {M : Type 1} → statement M
 later-length-spec =
     tie.close
     (tie.spec
-    Inv-loop
-    μ-loop
-    (λ c. search count-laws)
-    (λ c. search count-laws)
-    (λ c. search count-laws)
-    (λ c. search count-laws)
+    Inv-loop μ-loop (λ c. search count-laws) (λ c. search count-laws) (λ c. search count-laws) (λ c. search count-laws)
     (λ c. search count-laws))

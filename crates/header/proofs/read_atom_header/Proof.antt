@@ -16,15 +16,6 @@ pub read-atom-header-spec : {M : Type 1} → statement M
 read-atom-header-spec =
     tie.close
     (tie.spec
-    (λ c κs. search header-ends)
-    (λ c. search header-ends)
-    (λ c κs. search header-ends)
-    (λ c κs. search header-ends)
-    (λ c. search header-ends)
-    returns
-    (λ c. search header-ends)
-    (λ c κs. search header-ends)
-    (λ c. search header-ends)
-    (λ c κs. search header-ends)
-    returns-3
-    returns-4)
+    (λ c κs. search header-ends) (λ c. search header-ends) (λ c κs. search header-ends) (λ c κs. search header-ends)
+    (λ c. search header-ends) returns (λ c. search header-ends) (λ c κs. search header-ends) (λ c. search header-ends)
+    (λ c κs. search header-ends) returns-3 returns-4)

@@ -13,22 +13,8 @@ pub read-header-spec : {M : Type 1} → statement M
 read-header-spec =
     tie.close
     (tie.spec
-    (λ c κs. search version-ends)
-    (λ c κs. search version-ends)
-    (λ c. search version-ends)
-    (λ c κs. search version-ends)
-    (λ c. search version-ends)
-    (λ c. search version-ends)
-    (λ c κs. search version-ends)
-    (λ c. search version-ends)
-    (λ c. search version-ends)
-    (λ c κs. search version-ends)
-    (λ c. search version-ends)
-    (λ c. search version-ends)
-    (λ c. search version-ends)
-    (λ c κs. search version-ends)
-    returns
-    (λ c κs. search version-ends)
-    (λ c. search version-ends)
-    (λ c κs. search version-ends)
-    returns-3)
+    (λ c κs. search version-ends) (λ c κs. search version-ends) (λ c. search version-ends) (λ c κs. search version-ends)
+    (λ c. search version-ends) (λ c. search version-ends) (λ c κs. search version-ends) (λ c. search version-ends)
+    (λ c. search version-ends) (λ c κs. search version-ends) (λ c. search version-ends) (λ c. search version-ends)
+    (λ c. search version-ends) (λ c κs. search version-ends) returns (λ c κs. search version-ends)
+    (λ c. search version-ends) (λ c κs. search version-ends) returns-3)

@@ -17,21 +17,8 @@ pub read-later-spec : {M : Type 1} → statement M
 read-later-spec =
     tie.close
     (tie.spec
-    Inv-loop
-    μ-loop
-    (λ c κs. search reading-laws)
-    (λ c. search reading-laws)
-    (λ c. search reading-laws)
-    (λ c κs. search reading-laws)
-    (λ c. search reading-laws)
-    (λ c. search reading-laws)
-    (λ c. search reading-laws)
-    (λ c. search reading-laws)
-    (λ c. search reading-laws)
-    (λ c. search reading-laws)
-    loop-again
-    (λ c. search reading-laws)
-    (λ c. search reading-laws)
-    (λ c κs. search reading-laws)
-    (λ c. search reading-laws)
+    Inv-loop μ-loop (λ c κs. search reading-laws) (λ c. search reading-laws) (λ c. search reading-laws)
+    (λ c κs. search reading-laws) (λ c. search reading-laws) (λ c. search reading-laws) (λ c. search reading-laws)
+    (λ c. search reading-laws) (λ c. search reading-laws) (λ c. search reading-laws) loop-again
+    (λ c. search reading-laws) (λ c. search reading-laws) (λ c κs. search reading-laws) (λ c. search reading-laws)
     (λ c. search reading-laws))

@@ -7,11 +7,6 @@ pub write-header-spec : {M : Type 1} → statement M
 write-header-spec =
     tie.close
     (tie.spec
-    (λ c κs. search signature-ends)
-    (λ c. search signature-ends)
-    (λ c. search signature-ends)
-    (λ c. search signature-ends)
-    (λ c. search signature-ends)
-    (λ c. search signature-ends)
-    (λ c. search signature-ends)
+    (λ c κs. search signature-ends) (λ c. search signature-ends) (λ c. search signature-ends)
+    (λ c. search signature-ends) (λ c. search signature-ends) (λ c. search signature-ends) (λ c. search signature-ends)
     (λ c. search signature-ends))

@@ -13,16 +13,6 @@ pub write-later-spec : {M : Type 1} → statement M
 write-later-spec =
     tie.close
     (tie.spec
-    Inv-loop
-    μ-loop
-    (λ c. search write-laws)
-    (λ c. search write-laws)
-    (λ c. search write-laws)
-    (λ c. search write-laws)
-    (λ c. search write-laws)
-    (λ c. search write-laws)
-    (λ c. search write-laws)
-    (λ c. search write-laws)
-    (λ c. search write-laws)
-    (λ c. search write-laws)
-    (λ c. search write-laws))
+    Inv-loop μ-loop (λ c. search write-laws) (λ c. search write-laws) (λ c. search write-laws) (λ c. search write-laws)
+    (λ c. search write-laws) (λ c. search write-laws) (λ c. search write-laws) (λ c. search write-laws)
+    (λ c. search write-laws) (λ c. search write-laws) (λ c. search write-laws))

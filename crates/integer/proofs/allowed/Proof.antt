@@ -7,11 +7,5 @@ pub allowed-spec : {M : Type 1} → statement M
 allowed-spec =
     tie.close
     (tie.spec
-    (λ c. search counts-ends)
-    (λ c. search counts-ends)
-    (λ c. search counts-ends)
-    (λ c. search counts-ends)
-    (λ c. search counts-ends)
-    (λ c. search counts-ends)
-    (λ c. search counts-ends)
-    (λ c. search counts-ends))
+    (λ c. search counts-ends) (λ c. search counts-ends) (λ c. search counts-ends) (λ c. search counts-ends)
+    (λ c. search counts-ends) (λ c. search counts-ends) (λ c. search counts-ends) (λ c. search counts-ends))

@@ -10,21 +10,7 @@ pub filled-uint-spec : {M : Type 1} → statement M
 filled-uint-spec =
     tie.close
     (tie.spec
-    (λ c κs. search arms)
-    (λ c. search arms)
-    (λ c. search arms)
-    (λ c κs. search arms)
-    (λ c. search arms)
-    returns-2
-    (λ c κs. search arms)
-    (λ c. search arms)
-    (λ c. search arms)
-    (λ c κs. search arms)
-    (λ c. search arms)
-    (λ c. search arms)
-    (λ c κs. search arms)
-    (λ c. search arms)
-    (λ c κs. search arms)
-    (λ c. search arms)
-    (λ c κs. search arms)
-    (λ c. search arms))
+    (λ c κs. search arms) (λ c. search arms) (λ c. search arms) (λ c κs. search arms) (λ c. search arms) returns-2
+    (λ c κs. search arms) (λ c. search arms) (λ c. search arms) (λ c κs. search arms) (λ c. search arms)
+    (λ c. search arms) (λ c κs. search arms) (λ c. search arms) (λ c κs. search arms) (λ c. search arms)
+    (λ c κs. search arms) (λ c. search arms))

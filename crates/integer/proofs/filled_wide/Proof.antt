@@ -7,7 +7,4 @@ pub filled-wide-spec : {M : Type 1} → statement M
 filled-wide-spec =
     tie.close
     (tie.spec
-    (λ c κs. search arms)
-    (λ c. search arms)
-    (λ c κs. search arms)
-    (λ c. search arms))
+    (λ c κs. search arms) (λ c. search arms) (λ c κs. search arms) (λ c. search arms))

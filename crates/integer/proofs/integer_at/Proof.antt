@@ -10,8 +10,4 @@ pub integer-at-spec : {M : Type 1} → statement M
 integer-at-spec =
     tie.close
     (tie.spec
-    (λ c. search kind-ends)
-    (λ c κs. search kind-ends)
-    (λ c. search kind-ends)
-    (λ c κs. search kind-ends)
-    returns-2)
+    (λ c. search kind-ends) (λ c κs. search kind-ends) (λ c. search kind-ends) (λ c κs. search kind-ends) returns-2)

@@ -7,8 +7,5 @@ pub is-integer-spec : {M : Type 1} → statement M
 is-integer-spec =
     tie.close
     (tie.spec
-    (λ c. search kind-ends)
-    (λ c. search kind-ends)
-    (λ c. search kind-ends)
-    (λ c. search kind-ends)
+    (λ c. search kind-ends) (λ c. search kind-ends) (λ c. search kind-ends) (λ c. search kind-ends)
     (λ c. search kind-ends))

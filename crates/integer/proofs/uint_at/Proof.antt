@@ -10,21 +10,7 @@ pub uint-at-spec : {M : Type 1} → statement M
 uint-at-spec =
     tie.close
     (tie.spec
-    (λ c κs. search arms)
-    (λ c. search arms)
-    (λ c. search arms)
-    (λ c κs. search arms)
-    (λ c. search arms)
-    (λ c. search arms)
-    (λ c κs. search arms)
-    (λ c. search arms)
-    returns-3
-    (λ c κs. search arms)
-    (λ c. search arms)
-    (λ c. search arms)
-    (λ c κs. search arms)
-    (λ c. search arms)
-    (λ c κs. search arms)
-    (λ c. search arms)
-    (λ c κs. search arms)
-    (λ c. search arms))
+    (λ c κs. search arms) (λ c. search arms) (λ c. search arms) (λ c κs. search arms) (λ c. search arms)
+    (λ c. search arms) (λ c κs. search arms) (λ c. search arms) returns-3 (λ c κs. search arms) (λ c. search arms)
+    (λ c. search arms) (λ c κs. search arms) (λ c. search arms) (λ c κs. search arms) (λ c. search arms)
+    (λ c κs. search arms) (λ c. search arms))

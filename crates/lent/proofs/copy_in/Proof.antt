@@ -15,13 +15,5 @@ pub copy-in-spec : {M : Type 1} → statement M
 copy-in-spec =
     tie.close
     (tie.spec
-    Inv-loop
-    μ-loop
-    (λ c. search copying)
-    (λ c. search copying)
-    (λ c. search copying)
-    (λ c. search copying)
-    (λ c. search copying)
-    (λ c. search copying)
-    (λ c. search copying)
-    (λ c. search copying))
+    Inv-loop μ-loop (λ c. search copying) (λ c. search copying) (λ c. search copying) (λ c. search copying)
+    (λ c. search copying) (λ c. search copying) (λ c. search copying) (λ c. search copying))

@@ -13,8 +13,4 @@ pub put-all-spec : {M : Type 1} → statement M
 put-all-spec =
     tie.close
     (tie.spec
-    (λ c κs. search written-ends)
-    returns
-    (λ c κs. search written-ends)
-    (λ c. search written-ends)
-    returns-2)
+    (λ c κs. search written-ends) returns (λ c κs. search written-ends) (λ c. search written-ends) returns-2)

@@ -7,8 +7,5 @@ pub put-one-spec : {M : Type 1} → statement M
 put-one-spec =
     tie.close
     (tie.spec
-    (λ c κs. search written-ends)
-    (λ c. search written-ends)
-    (λ c. search written-ends)
-    (λ c. search written-ends)
+    (λ c κs. search written-ends) (λ c. search written-ends) (λ c. search written-ends) (λ c. search written-ends)
     (λ c. search written-ends))

@@ -7,8 +7,5 @@ pub bits-of-i32-spec : {M : Type 1} → statement M
 bits-of-i32-spec =
     tie.close
     (tie.spec
-    (λ c. search sign-ends)
-    (λ c. search sign-ends)
-    (λ c. search sign-ends)
-    (λ c. search sign-ends)
+    (λ c. search sign-ends) (λ c. search sign-ends) (λ c. search sign-ends) (λ c. search sign-ends)
     (λ c. search sign-ends))

@@ -16,10 +16,5 @@ pub byte-at-spec : {M : Type 1} → statement M
 byte-at-spec =
     tie.close
     (tie.spec
-    (λ c. search read-ends)
-    (λ c. search read-ends)
-    (λ c. search read-ends)
-    (λ c κs. search read-ends)
-    returns
-    returns-2
+    (λ c. search read-ends) (λ c. search read-ends) (λ c. search read-ends) (λ c κs. search read-ends) returns returns-2
     returns-3)

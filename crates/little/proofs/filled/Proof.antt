@@ -22,13 +22,5 @@ pub filled-spec : {M : Type 1} → statement M
 filled-spec =
     tie.close
     (tie.spec
-    Inv-loop
-    μ-loop
-    loop-holds
-    (λ c. search filling-laws)
-    (λ c. search filling-laws)
-    (λ c κs. search filling-laws)
-    (λ c. search filling-laws)
-    (λ c. search filling-laws)
-    loop-again
-    returns)
+    Inv-loop μ-loop loop-holds (λ c. search filling-laws) (λ c. search filling-laws) (λ c κs. search filling-laws)
+    (λ c. search filling-laws) (λ c. search filling-laws) loop-again returns)

@@ -7,8 +7,5 @@ pub i24-of-spec : {M : Type 1} → statement M
 i24-of-spec =
     tie.close
     (tie.spec
-    (λ c. search sign-ends)
-    (λ c. search sign-ends)
-    (λ c. search sign-ends)
-    (λ c. search sign-ends)
+    (λ c. search sign-ends) (λ c. search sign-ends) (λ c. search sign-ends) (λ c. search sign-ends)
     (λ c. search sign-ends))

@@ -10,11 +10,5 @@ pub le2-spec : {M : Type 1} → statement M
 le2-spec =
     tie.close
     (tie.spec
-    (λ c. search read-ends)
-    (λ c κs. search read-ends)
-    (λ c. search read-ends)
-    (λ c. search read-ends)
-    (λ c κs. search read-ends)
-    (λ c. search read-ends)
-    (λ c. search read-ends)
-    returns)
+    (λ c. search read-ends) (λ c κs. search read-ends) (λ c. search read-ends) (λ c. search read-ends)
+    (λ c κs. search read-ends) (λ c. search read-ends) (λ c. search read-ends) returns)

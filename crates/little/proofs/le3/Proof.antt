@@ -10,16 +10,6 @@ pub le3-spec : {M : Type 1} → statement M
 le3-spec =
     tie.close
     (tie.spec
-    (λ c. search read-ends)
-    (λ c κs. search read-ends)
-    (λ c. search read-ends)
-    (λ c. search read-ends)
-    (λ c κs. search read-ends)
-    (λ c. search read-ends)
-    (λ c. search read-ends)
-    (λ c. search read-ends)
-    (λ c. search read-ends)
-    (λ c κs. search read-ends)
-    (λ c. search read-ends)
-    (λ c. search read-ends)
-    returns)
+    (λ c. search read-ends) (λ c κs. search read-ends) (λ c. search read-ends) (λ c. search read-ends)
+    (λ c κs. search read-ends) (λ c. search read-ends) (λ c. search read-ends) (λ c. search read-ends)
+    (λ c. search read-ends) (λ c κs. search read-ends) (λ c. search read-ends) (λ c. search read-ends) returns)

@@ -10,9 +10,5 @@ pub le8-spec : {M : Type 1} → statement M
 le8-spec =
     tie.close
     (tie.spec
-    (λ c κs. search read-ends)
-    (λ c. search read-ends)
-    (λ c κs. search read-ends)
-    (λ c. search read-ends)
-    (λ c. search read-ends)
-    returns)
+    (λ c κs. search read-ends) (λ c. search read-ends) (λ c κs. search read-ends) (λ c. search read-ends)
+    (λ c. search read-ends) returns)

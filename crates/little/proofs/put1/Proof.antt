@@ -7,10 +7,5 @@ pub put1-spec : {M : Type 1} → statement M
 put1-spec =
     tie.close
     (tie.spec
-    (λ c κs. search store-ends)
-    (λ c. search store-ends)
-    (λ c. search store-ends)
-    (λ c. search store-ends)
-    (λ c. search store-ends)
-    (λ c. search store-ends)
-    (λ c. search store-ends))
+    (λ c κs. search store-ends) (λ c. search store-ends) (λ c. search store-ends) (λ c. search store-ends)
+    (λ c. search store-ends) (λ c. search store-ends) (λ c. search store-ends))

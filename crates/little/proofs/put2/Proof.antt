@@ -7,12 +7,6 @@ pub put2-spec : {M : Type 1} → statement M
 put2-spec =
     tie.close
     (tie.spec
-    (λ c κs. search store-ends)
-    (λ c. search store-ends)
-    (λ c. search store-ends)
-    (λ c. search store-ends)
-    (λ c. search store-ends)
-    (λ c. search store-ends)
-    (λ c. search store-ends)
-    (λ c. search store-ends)
+    (λ c κs. search store-ends) (λ c. search store-ends) (λ c. search store-ends) (λ c. search store-ends)
+    (λ c. search store-ends) (λ c. search store-ends) (λ c. search store-ends) (λ c. search store-ends)
     (λ c. search store-ends))

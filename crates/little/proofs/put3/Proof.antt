@@ -7,14 +7,6 @@ pub put3-spec : {M : Type 1} → statement M
 put3-spec =
     tie.close
     (tie.spec
-    (λ c κs. search store-ends)
-    (λ c. search store-ends)
-    (λ c. search store-ends)
-    (λ c. search store-ends)
-    (λ c. search store-ends)
-    (λ c. search store-ends)
-    (λ c. search store-ends)
-    (λ c. search store-ends)
-    (λ c. search store-ends)
-    (λ c. search store-ends)
-    (λ c. search store-ends))
+    (λ c κs. search store-ends) (λ c. search store-ends) (λ c. search store-ends) (λ c. search store-ends)
+    (λ c. search store-ends) (λ c. search store-ends) (λ c. search store-ends) (λ c. search store-ends)
+    (λ c. search store-ends) (λ c. search store-ends) (λ c. search store-ends))

@@ -7,16 +7,7 @@ pub put4-spec : {M : Type 1} → statement M
 put4-spec =
     tie.close
     (tie.spec
-    (λ c κs. search store-ends)
-    (λ c. search store-ends)
-    (λ c. search store-ends)
-    (λ c. search store-ends)
-    (λ c. search store-ends)
-    (λ c. search store-ends)
-    (λ c. search store-ends)
-    (λ c. search store-ends)
-    (λ c. search store-ends)
-    (λ c. search store-ends)
-    (λ c. search store-ends)
-    (λ c. search store-ends)
+    (λ c κs. search store-ends) (λ c. search store-ends) (λ c. search store-ends) (λ c. search store-ends)
+    (λ c. search store-ends) (λ c. search store-ends) (λ c. search store-ends) (λ c. search store-ends)
+    (λ c. search store-ends) (λ c. search store-ends) (λ c. search store-ends) (λ c. search store-ends)
     (λ c. search store-ends))

@@ -13,9 +13,4 @@ pub buffered-read-bytes-spec : {M : Type 1} → statement M
 buffered-read-bytes-spec =
     tie.close
     (tie.spec
-    (λ c κs. search way-ends)
-    returns
-    (λ c. search way-ends)
-    (λ c κs. search way-ends)
-    (λ c. search way-ends)
-    returns-2)
+    (λ c κs. search way-ends) returns (λ c. search way-ends) (λ c κs. search way-ends) (λ c. search way-ends) returns-2)

@@ -16,15 +16,6 @@ pub copy-bytes-spec : {M : Type 1} → statement M
 copy-bytes-spec =
     tie.close
     (tie.spec
-    (λ c κs. search copied-ends)
-    (λ c. search copied-ends)
-    returns
-    (λ c κs. search copied-ends)
-    returns-2
-    (λ c. search copied-ends)
-    (λ c. search copied-ends)
-    (λ c. search copied-ends)
-    (λ c. search copied-ends)
-    (λ c κs. search copied-ends)
-    (λ c. search copied-ends)
-    returns-3)
+    (λ c κs. search copied-ends) (λ c. search copied-ends) returns (λ c κs. search copied-ends) returns-2
+    (λ c. search copied-ends) (λ c. search copied-ends) (λ c. search copied-ends) (λ c. search copied-ends)
+    (λ c κs. search copied-ends) (λ c. search copied-ends) returns-3)

@@ -13,8 +13,4 @@ pub lend-bytes-spec : {M : Type 1} → statement M
 lend-bytes-spec =
     tie.close
     (tie.spec
-    (λ c κs. search lent-ends)
-    (λ c. search lent-ends)
-    (λ c. search lent-ends)
-    returns
-    returns-2)
+    (λ c κs. search lent-ends) (λ c. search lent-ends) (λ c. search lent-ends) returns returns-2)

@@ -7,16 +7,7 @@ pub part-spec : {M : Type 1} → statement M
 part-spec =
     tie.close
     (tie.spec
-    (λ c. search part-ends)
-    (λ c. search part-ends)
-    (λ c. search part-ends)
-    (λ c. search part-ends)
-    (λ c. search part-ends)
-    (λ c. search part-ends)
-    (λ c. search part-ends)
-    (λ c. search part-ends)
-    (λ c. search part-ends)
-    (λ c. search part-ends)
-    (λ c. search part-ends)
-    (λ c. search part-ends)
+    (λ c. search part-ends) (λ c. search part-ends) (λ c. search part-ends) (λ c. search part-ends)
+    (λ c. search part-ends) (λ c. search part-ends) (λ c. search part-ends) (λ c. search part-ends)
+    (λ c. search part-ends) (λ c. search part-ends) (λ c. search part-ends) (λ c. search part-ends)
     (λ c. search part-ends))

@@ -7,18 +7,7 @@ pub read-spec : {M : Type 1} → statement M
 read-spec =
     tie.close
     (tie.spec
-    (λ c κs. search raw-ends)
-    (λ c. search raw-ends)
-    (λ c. search raw-ends)
-    (λ c. search raw-ends)
-    (λ c. search raw-ends)
-    (λ c. search raw-ends)
-    (λ c κs. search raw-ends)
-    (λ c. search raw-ends)
-    (λ c. search raw-ends)
-    (λ c. search raw-ends)
-    (λ c. search raw-ends)
-    (λ c. search raw-ends)
-    (λ c κs. search raw-ends)
-    (λ c. search raw-ends)
-    (λ c. search raw-ends))
+    (λ c κs. search raw-ends) (λ c. search raw-ends) (λ c. search raw-ends) (λ c. search raw-ends)
+    (λ c. search raw-ends) (λ c. search raw-ends) (λ c κs. search raw-ends) (λ c. search raw-ends)
+    (λ c. search raw-ends) (λ c. search raw-ends) (λ c. search raw-ends) (λ c. search raw-ends)
+    (λ c κs. search raw-ends) (λ c. search raw-ends) (λ c. search raw-ends))

@@ -10,13 +10,6 @@ pub read-exact-spec : {M : Type 1} → statement M
 read-exact-spec =
     tie.close
     (tie.spec
-    (λ c κs. search exactly-ends)
-    (λ c. search exactly-ends)
-    (λ c κs. search exactly-ends)
-    (λ c. search exactly-ends)
-    (λ c. search exactly-ends)
-    (λ c κs. search exactly-ends)
-    returns-2
-    (λ c κs. search exactly-ends)
-    (λ c. search exactly-ends)
-    (λ c. search exactly-ends))
+    (λ c κs. search exactly-ends) (λ c. search exactly-ends) (λ c κs. search exactly-ends) (λ c. search exactly-ends)
+    (λ c. search exactly-ends) (λ c κs. search exactly-ends) returns-2 (λ c κs. search exactly-ends)
+    (λ c. search exactly-ends) (λ c. search exactly-ends))

@@ -7,7 +7,4 @@ pub from-words-spec : {M : Type 1} → statement M
 from-words-spec =
     tie.close
     (tie.spec
-    (λ c κs. search from-ends)
-    (λ c. search from-ends)
-    (λ c κs. search from-ends)
-    (λ c. search from-ends))
+    (λ c κs. search from-ends) (λ c. search from-ends) (λ c κs. search from-ends) (λ c. search from-ends))

@@ -7,13 +7,6 @@ pub count-spec : {M : Type 1} → statement M
 count-spec =
     tie.close
     (tie.spec
-    (λ c. search count-ends)
-    (λ c. search count-ends)
-    (λ c. search count-ends)
-    (λ c κs. search count-ends)
-    (λ c. search count-ends)
-    (λ c. search count-ends)
-    (λ c. search count-ends)
-    (λ c. search count-ends)
-    (λ c. search count-ends)
-    (λ c. search count-ends))
+    (λ c. search count-ends) (λ c. search count-ends) (λ c. search count-ends) (λ c κs. search count-ends)
+    (λ c. search count-ends) (λ c. search count-ends) (λ c. search count-ends) (λ c. search count-ends)
+    (λ c. search count-ends) (λ c. search count-ends))

@@ -13,10 +13,5 @@ pub judge-spec : {M : Type 1} → statement M
 judge-spec =
     tie.close
     (tie.spec
-    returns
-    (λ c κs. search judge-ends)
-    (λ c. search judge-ends)
-    (λ c κs. search judge-ends)
-    returns-2
-    (λ c. search judge-ends)
-    (λ c. search judge-ends))
+    returns (λ c κs. search judge-ends) (λ c. search judge-ends) (λ c κs. search judge-ends) returns-2
+    (λ c. search judge-ends) (λ c. search judge-ends))

@@ -7,10 +7,5 @@ pub append-spec : {M : Type 1} → statement M
 append-spec =
     tie.close
     (tie.spec
-    (λ c. search append-ends)
-    (λ c. search append-ends)
-    (λ c. search append-ends)
-    (λ c κs. search append-ends)
-    (λ c. search append-ends)
-    (λ c. search append-ends)
-    (λ c. search append-ends))
+    (λ c. search append-ends) (λ c. search append-ends) (λ c. search append-ends) (λ c κs. search append-ends)
+    (λ c. search append-ends) (λ c. search append-ends) (λ c. search append-ends))

@@ -10,9 +10,5 @@ pub append-decimal-spec : {M : Type 1} → statement M
 append-decimal-spec =
     tie.close
     (tie.spec
-    (λ c κs. search decimal-ends)
-    (λ c. search decimal-ends)
-    (λ c. search decimal-ends)
-    (λ c κs. search decimal-ends)
-    (λ c. search decimal-ends)
-    returns)
+    (λ c κs. search decimal-ends) (λ c. search decimal-ends) (λ c. search decimal-ends) (λ c κs. search decimal-ends)
+    (λ c. search decimal-ends) returns)

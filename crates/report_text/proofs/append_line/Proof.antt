@@ -10,9 +10,5 @@ pub append-line-spec : {M : Type 1} → statement M
 append-line-spec =
     tie.close
     (tie.spec
-    (λ c κs. search line-ends)
-    (λ c κs. search line-ends)
-    (λ c. search line-ends)
-    (λ c κs. search line-ends)
-    (λ c. search line-ends)
-    returns)
+    (λ c κs. search line-ends) (λ c κs. search line-ends) (λ c. search line-ends) (λ c κs. search line-ends)
+    (λ c. search line-ends) returns)

@@ -7,12 +7,6 @@ pub put-report-spec : {M : Type 1} → statement M
 put-report-spec =
     tie.close
     (tie.spec
-    (λ c κs. search found-ends)
-    (λ c. search found-ends)
-    (λ c κs. search found-ends)
-    (λ c. search found-ends)
-    (λ c. search found-ends)
-    (λ c. search found-ends)
-    (λ c κs. search found-ends)
-    (λ c. search found-ends)
+    (λ c κs. search found-ends) (λ c. search found-ends) (λ c κs. search found-ends) (λ c. search found-ends)
+    (λ c. search found-ends) (λ c. search found-ends) (λ c κs. search found-ends) (λ c. search found-ends)
     (λ c. search found-ends))

@@ -11,8 +11,4 @@ pub report-into-spec : {M : Type 1} → statement M
 report-into-spec =
     tie.close
     (tie.spec
-    (λ c κs. search room-ends)
-    (λ c. search room-ends)
-    returns
-    (λ c. search room-ends)
-    (λ c. search room-ends))
+    (λ c κs. search room-ends) (λ c. search room-ends) returns (λ c. search room-ends) (λ c. search room-ends))

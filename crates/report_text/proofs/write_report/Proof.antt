@@ -11,10 +11,5 @@ pub write-report-spec : {M : Type 1} → statement M
 write-report-spec =
     tie.close
     (tie.spec
-    (λ c. search write-ends)
-    (λ c κs. search write-ends)
-    (λ c. search write-ends)
-    (λ c. search write-ends)
-    (λ c κs. search write-ends)
-    (λ c. search write-ends)
-    returns)
+    (λ c. search write-ends) (λ c κs. search write-ends) (λ c. search write-ends) (λ c. search write-ends)
+    (λ c κs. search write-ends) (λ c. search write-ends) returns)

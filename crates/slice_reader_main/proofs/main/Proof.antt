@@ -35,14 +35,6 @@ pub main-spec : {M : Type 1} → statement M
 main-spec =
     tie.close
     (tie.spec
-    (λ c κs. search needs)
-    expect-requires
-    (λ c κs. search needs)
-    (λ c κs. search needs)
-    (λ c κs. search needs)
-    (λ c κs. search needs)
-    expect-requires-3
-    (λ c κs. search needs)
-    expect-requires-4
-    expect-requires-5
+    (λ c κs. search needs) expect-requires (λ c κs. search needs) (λ c κs. search needs) (λ c κs. search needs)
+    (λ c κs. search needs) expect-requires-3 (λ c κs. search needs) expect-requires-4 expect-requires-5
     (λ c. search needs))

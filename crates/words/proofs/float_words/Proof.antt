@@ -7,8 +7,5 @@ pub float-words-spec : {M : Type 1} → statement M
 float-words-spec =
     tie.close
     (tie.spec
-    (λ c. search float-ends)
-    (λ c. search float-ends)
-    (λ c. search float-ends)
-    (λ c κs. search float-ends)
+    (λ c. search float-ends) (λ c. search float-ends) (λ c. search float-ends) (λ c κs. search float-ends)
     (λ c. search float-ends))

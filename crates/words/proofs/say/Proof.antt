@@ -7,14 +7,6 @@ pub say-spec : {M : Type 1} → statement M
 say-spec =
     tie.close
     (tie.spec
-    (λ c. search say-ends)
-    (λ c. search say-ends)
-    (λ c. search say-ends)
-    (λ c. search say-ends)
-    (λ c. search say-ends)
-    (λ c. search say-ends)
-    (λ c. search say-ends)
-    (λ c. search say-ends)
-    (λ c. search say-ends)
-    (λ c. search say-ends)
+    (λ c. search say-ends) (λ c. search say-ends) (λ c. search say-ends) (λ c. search say-ends) (λ c. search say-ends)
+    (λ c. search say-ends) (λ c. search say-ends) (λ c. search say-ends) (λ c. search say-ends) (λ c. search say-ends)
     (λ c. search say-ends))

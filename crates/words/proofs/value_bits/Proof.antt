@@ -7,8 +7,5 @@ pub value-bits-spec : {M : Type 1} → statement M
 value-bits-spec =
     tie.close
     (tie.spec
-    (λ c. search float-ends)
-    (λ c κs. search float-ends)
-    (λ c. search float-ends)
-    (λ c. search float-ends)
+    (λ c. search float-ends) (λ c κs. search float-ends) (λ c. search float-ends) (λ c. search float-ends)
     (λ c. search float-ends))

@@ -15,22 +15,8 @@ pub copy-blocks-spec : {M : Type 1} → statement M
 copy-blocks-spec =
     tie.close
     (tie.spec
-    Inv-loop
-    μ-loop
-    (λ c. search block-ends)
-    (λ c. search block-ends)
-    (λ c. search block-ends)
-    (λ c. search block-ends)
-    (λ c. search block-ends)
-    (λ c. search block-ends)
-    (λ c. search block-ends)
-    (λ c. search block-ends)
-    (λ c. search block-ends)
-    (λ c. search block-ends)
-    (λ c κs. search block-ends)
-    (λ c. search block-ends)
-    (λ c. search block-ends)
-    (λ c. search block-ends)
-    (λ c κs. search block-ends)
-    (λ c. search block-ends)
+    Inv-loop μ-loop (λ c. search block-ends) (λ c. search block-ends) (λ c. search block-ends) (λ c. search block-ends)
+    (λ c. search block-ends) (λ c. search block-ends) (λ c. search block-ends) (λ c. search block-ends)
+    (λ c. search block-ends) (λ c. search block-ends) (λ c κs. search block-ends) (λ c. search block-ends)
+    (λ c. search block-ends) (λ c. search block-ends) (λ c κs. search block-ends) (λ c. search block-ends)
     (λ c. search block-ends))

@@ -7,19 +7,7 @@ pub copy-four-spec : {M : Type 1} → statement M
 copy-four-spec =
     tie.close
     (tie.spec
-    (λ c. search four-ends)
-    (λ c. search four-ends)
-    (λ c. search four-ends)
-    (λ c. search four-ends)
-    (λ c. search four-ends)
-    (λ c. search four-ends)
-    (λ c. search four-ends)
-    (λ c. search four-ends)
-    (λ c. search four-ends)
-    (λ c. search four-ends)
-    (λ c. search four-ends)
-    (λ c. search four-ends)
-    (λ c. search four-ends)
-    (λ c. search four-ends)
-    (λ c. search four-ends)
-    (λ c. search four-ends))
+    (λ c. search four-ends) (λ c. search four-ends) (λ c. search four-ends) (λ c. search four-ends)
+    (λ c. search four-ends) (λ c. search four-ends) (λ c. search four-ends) (λ c. search four-ends)
+    (λ c. search four-ends) (λ c. search four-ends) (λ c. search four-ends) (λ c. search four-ends)
+    (λ c. search four-ends) (λ c. search four-ends) (λ c. search four-ends) (λ c. search four-ends))

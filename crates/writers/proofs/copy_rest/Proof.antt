@@ -16,15 +16,6 @@ pub copy-rest-spec : {M : Type 1} → statement M
 copy-rest-spec =
     tie.close
     (tie.spec
-    Inv-loop
-    μ-loop
-    (λ c. search rest-laws)
-    (λ c. search rest-laws)
-    (λ c κs. search rest-laws)
-    (λ c. search rest-laws)
-    (λ c. search rest-laws)
-    (λ c. search rest-laws)
-    (λ c. search rest-laws)
-    (λ c κs. search rest-laws)
-    (λ c. search rest-laws)
-    (λ c. search rest-laws))
+    Inv-loop μ-loop (λ c. search rest-laws) (λ c. search rest-laws) (λ c κs. search rest-laws) (λ c. search rest-laws)
+    (λ c. search rest-laws) (λ c. search rest-laws) (λ c. search rest-laws) (λ c κs. search rest-laws)
+    (λ c. search rest-laws) (λ c. search rest-laws))

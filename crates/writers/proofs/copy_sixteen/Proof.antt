@@ -8,17 +8,7 @@ pub copy-sixteen-spec : {M : Type 1} → statement M
 copy-sixteen-spec =
     tie.close
     (tie.spec
-    (λ c. search sixteen-ends)
-    (λ c. search sixteen-ends)
-    (λ c. search sixteen-ends)
-    (λ c. search sixteen-ends)
-    (λ c. search sixteen-ends)
-    (λ c κs. search sixteen-ends)
-    (λ c. search sixteen-ends)
-    (λ c. search sixteen-ends)
-    (λ c. search sixteen-ends)
-    (λ c. search sixteen-ends)
-    (λ c. search sixteen-ends)
-    (λ c κs. search sixteen-ends)
-    (λ c. search sixteen-ends)
-    (λ c. search sixteen-ends))
+    (λ c. search sixteen-ends) (λ c. search sixteen-ends) (λ c. search sixteen-ends) (λ c. search sixteen-ends)
+    (λ c. search sixteen-ends) (λ c κs. search sixteen-ends) (λ c. search sixteen-ends) (λ c. search sixteen-ends)
+    (λ c. search sixteen-ends) (λ c. search sixteen-ends) (λ c. search sixteen-ends) (λ c κs. search sixteen-ends)
+    (λ c. search sixteen-ends) (λ c. search sixteen-ends))

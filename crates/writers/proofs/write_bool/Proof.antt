@@ -13,9 +13,5 @@ pub write-bool-spec : {M : Type 1} → statement M
 write-bool-spec =
     tie.close
     (tie.spec
-    (λ c κs. search special-ends)
-    (λ c. search special-ends)
-    returns
-    (λ c κs. search special-ends)
-    (λ c. search special-ends)
-    returns-2)
+    (λ c κs. search special-ends) (λ c. search special-ends) returns (λ c κs. search special-ends)
+    (λ c. search special-ends) returns-2)

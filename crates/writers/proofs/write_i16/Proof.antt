@@ -13,13 +13,6 @@ pub write-i16-spec : {M : Type 1} → statement M
 write-i16-spec =
     tie.close
     (tie.spec
-    (λ c. search signed-ends)
-    (λ c κs. search signed-ends)
-    (λ c. search signed-ends)
-    (λ c κs. search signed-ends)
-    (λ c. search signed-ends)
-    returns
-    (λ c κs. search signed-ends)
-    (λ c κs. search signed-ends)
-    (λ c. search signed-ends)
-    returns-2)
+    (λ c. search signed-ends) (λ c κs. search signed-ends) (λ c. search signed-ends) (λ c κs. search signed-ends)
+    (λ c. search signed-ends) returns (λ c κs. search signed-ends) (λ c κs. search signed-ends)
+    (λ c. search signed-ends) returns-2)

@@ -16,14 +16,6 @@ pub write-i24-spec : {M : Type 1} → statement M
 write-i24-spec =
     tie.close
     (tie.spec
-    (λ c. search signed-ends)
-    (λ c κs. search signed-ends)
-    returns
-    (λ c. search signed-ends)
-    (λ c κs. search signed-ends)
-    (λ c. search signed-ends)
-    returns-2
-    (λ c κs. search signed-ends)
-    (λ c κs. search signed-ends)
-    (λ c. search signed-ends)
-    returns-3)
+    (λ c. search signed-ends) (λ c κs. search signed-ends) returns (λ c. search signed-ends)
+    (λ c κs. search signed-ends) (λ c. search signed-ends) returns-2 (λ c κs. search signed-ends)
+    (λ c κs. search signed-ends) (λ c. search signed-ends) returns-3)

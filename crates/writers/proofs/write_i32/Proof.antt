@@ -13,12 +13,5 @@ pub write-i32-spec : {M : Type 1} → statement M
 write-i32-spec =
     tie.close
     (tie.spec
-    (λ c. search signed-ends)
-    (λ c κs. search signed-ends)
-    (λ c κs. search signed-ends)
-    (λ c. search signed-ends)
-    returns
-    (λ c κs. search signed-ends)
-    (λ c κs. search signed-ends)
-    (λ c. search signed-ends)
-    returns-2)
+    (λ c. search signed-ends) (λ c κs. search signed-ends) (λ c κs. search signed-ends) (λ c. search signed-ends)
+    returns (λ c κs. search signed-ends) (λ c κs. search signed-ends) (λ c. search signed-ends) returns-2)

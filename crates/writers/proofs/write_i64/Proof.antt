@@ -13,11 +13,5 @@ pub write-i64-spec : {M : Type 1} → statement M
 write-i64-spec =
     tie.close
     (tie.spec
-    (λ c κs. search signed-ends)
-    (λ c κs. search signed-ends)
-    (λ c. search signed-ends)
-    returns
-    (λ c κs. search signed-ends)
-    (λ c κs. search signed-ends)
-    (λ c. search signed-ends)
-    returns-2)
+    (λ c κs. search signed-ends) (λ c κs. search signed-ends) (λ c. search signed-ends) returns
+    (λ c κs. search signed-ends) (λ c κs. search signed-ends) (λ c. search signed-ends) returns-2)

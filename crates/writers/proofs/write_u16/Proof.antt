@@ -13,10 +13,5 @@ pub write-u16-spec : {M : Type 1} → statement M
 write-u16-spec =
     tie.close
     (tie.spec
-    (λ c. search unsigned-ends)
-    (λ c κs. search unsigned-ends)
-    (λ c. search unsigned-ends)
-    returns
-    (λ c κs. search unsigned-ends)
-    (λ c. search unsigned-ends)
-    returns-2)
+    (λ c. search unsigned-ends) (λ c κs. search unsigned-ends) (λ c. search unsigned-ends) returns
+    (λ c κs. search unsigned-ends) (λ c. search unsigned-ends) returns-2)

@@ -16,11 +16,5 @@ pub write-u48-spec : {M : Type 1} → statement M
 write-u48-spec =
     tie.close
     (tie.spec
-    returns
-    (λ c. search unsigned-ends)
-    (λ c κs. search unsigned-ends)
-    (λ c. search unsigned-ends)
-    returns-2
-    (λ c κs. search unsigned-ends)
-    (λ c. search unsigned-ends)
-    returns-3)
+    returns (λ c. search unsigned-ends) (λ c κs. search unsigned-ends) (λ c. search unsigned-ends) returns-2
+    (λ c κs. search unsigned-ends) (λ c. search unsigned-ends) returns-3)

@@ -13,12 +13,5 @@ pub from-u8-spec : {M : Type 1} → statement M
 from-u8-spec =
     tie.close
     (tie.spec
-    (λ c. search code-ends)
-    (λ c. search code-ends)
-    (λ c. search code-ends)
-    returns-4
-    (λ c. search code-ends)
-    (λ c. search code-ends)
-    (λ c. search code-ends)
-    (λ c. search code-ends)
-    returns-9)
+    (λ c. search code-ends) (λ c. search code-ends) (λ c. search code-ends) returns-4 (λ c. search code-ends)
+    (λ c. search code-ends) (λ c. search code-ends) (λ c. search code-ends) returns-9)

@@ -13,11 +13,5 @@ pub try-from-spec : {M : Type 1} → statement M
 try-from-spec =
     tie.close
     (tie.spec
-    (λ c. search code-ends)
-    (λ c. search code-ends)
-    returns-3
-    (λ c. search code-ends)
-    (λ c. search code-ends)
-    (λ c. search code-ends)
-    returns-7
-    (λ c. search code-ends))
+    (λ c. search code-ends) (λ c. search code-ends) returns-3 (λ c. search code-ends) (λ c. search code-ends)
+    (λ c. search code-ends) returns-7 (λ c. search code-ends))

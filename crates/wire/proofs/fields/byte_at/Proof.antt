@@ -14,11 +14,5 @@ pub byte-at-spec : {M : Type 1} → statement M
 byte-at-spec =
     tie.close
     (tie.spec
-    (λ c κs. search needs)
-    (λ c. search needs)
-    add-digit-at
-    (λ c κs. search needs)
-    (λ c. search needs)
-    (λ c. search needs)
-    (λ c. search needs)
-    returns-3)
+    (λ c κs. search needs) (λ c. search needs) add-digit-at (λ c κs. search needs) (λ c. search needs)
+    (λ c. search needs) (λ c. search needs) returns-3)
