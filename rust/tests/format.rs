@@ -1,0 +1,125 @@
+//! The examples of docs/FORMAT.md, each run and compared to the word. A block's name says what is done with the bytes at the
+//! left of a line; `-` stands for no bytes.
+use std::collections::BTreeMap;
+
+use dimewagon::*;
+
+const PAGE: &str = include_str!("../../docs/FORMAT.md");
+
+/// The examples of the page: the name of the block, the left and the right of the line.
+fn examples() -> Vec<(&'static str, &'static str, &'static str)> {
+    let mut found = Vec::new();
+    let mut block = None;
+    for line in PAGE.lines() {
+        match (line.strip_prefix("```"), block) {
+            (Some(name), None) => block = Some(name),
+            (Some(_), Some(_)) => block = None,
+            (None, Some(name)) => {
+                let (left, right) = line.split_once("  ").unwrap_or_else(|| panic!("an example without an answer: {line}"));
+                found.push((name, left, right.trim()));
+            }
+            (None, None) => {}
+        }
+    }
+    found
+}
+
+fn bytes(text: &str) -> Vec<u8> {
+    text.split(' ').filter(|&pair| pair != "-").map(|pair| u8::from_str_radix(pair, 16).unwrap()).collect()
+}
+
+/// A refusal by its number and data.
+fn refused(refusal: Refusal) -> String {
+    match refusal {
+        Refusal::InvalidKind(value) | Refusal::UnknownSpecial(value) => format!("refusal {} of {value}", refusal.number()),
+        Refusal::UnsupportedByteCount(kind, count) => format!("refusal {} of {kind:?}, {count}", refusal.number()),
+        Refusal::UnexpectedKind(kind, wanted) => format!("refusal {} of {kind:?}, {wanted:?}", refusal.number()),
+        _ => format!("refusal {}", refusal.number()),
+    }
+}
+
+/// What an atom holds; of one that is its header alone, the argument.
+fn held(atom: Atom<'_>) -> String {
+    match atom.nucleus {
+        Nucleus::Integer(value) => format!("{value:?}"),
+        Nucleus::Float(value, _) => format!("{value:?}"),
+        Nucleus::Bytes(string) => format!("{:?}", std::str::from_utf8(string).unwrap()),
+        Nucleus::Boolean(value) => (if value { "True" } else { "False" }).into(),
+        Nucleus::None if atom.kind != Kind::Special => atom.arg.to_string(),
+        nucleus => format!("{nucleus:?}"),
+    }
+}
+
+/// The answer to one atom, which has to have no bytes after it.
+fn one(answer: Result<Read<'_>, Stopped>, budget: u64) -> String {
+    match answer {
+        Ok(read) => {
+            let holds = held(read.atom);
+            format!("{:?} {holds}; place {}, charge {}", read.atom.kind, read.place, budget - read.budget)
+        }
+        Err(stopped) => {
+            format!("{}; place {}, charge {}", refused(stopped.refusal), stopped.place, budget - stopped.budget)
+        }
+    }
+}
+
+fn signature(source: &[u8]) -> String {
+    match read_header_exact(source) {
+        Ok((version, _)) => format!("version {version}"),
+        Err(stopped) => refused(stopped.refusal),
+    }
+}
+
+fn file(source: &[u8]) -> String {
+    match tally(source) {
+        Ok(t) => format!("atoms {}, body {}, charge {}, letters {}", t.atoms, t.body, t.charge, t.letters),
+        Err(stopped) => format!("{}; start {}", refused(stopped.refusal), stopped.start),
+    }
+}
+
+/// The lengths to which a file can be cut and is still read to its end without a refusal.
+fn cuts(file: &[u8]) -> String {
+    let whole = |cut: &[u8]| match Atoms::of_file(cut) {
+        Ok((_, mut atoms)) => atoms.all(|atom| atom.is_ok()),
+        Err(_) => false,
+    };
+    let taken = (0..file.len()).filter(|&length| whole(&file[..length]));
+    taken.map(|length| length.to_string()).collect::<Vec<_>>().join(" ")
+}
+
+/// What a writer writes, by the type and the value that are given to it.
+fn written(value: &str) -> String {
+    let (writer, value) = value.split_once(' ').unwrap();
+    let mut out = [0; 17];
+    let count = match writer {
+        "i16" => write_i16(&mut out, value.parse().unwrap()),
+        "i32" => write_i32(&mut out, value.parse().unwrap()),
+        "u64" => write_u64(&mut out, value.parse().unwrap()),
+        "u128" => write_u128(&mut out, value.parse().unwrap()),
+        "f32" => write_f32(&mut out, value.parse().unwrap()),
+        "f64" => write_f64(&mut out, value.parse().unwrap()),
+        _ => panic!("no writer is called {writer}"),
+    };
+    out[..count.unwrap()].iter().map(|byte| format!("{byte:02X}")).collect::<Vec<_>>().join(" ")
+}
+
+#[test]
+fn every_example_of_the_page_is_so() {
+    let mut ran = BTreeMap::new();
+    for (block, left, right) in examples() {
+        let answer = match block {
+            "exact" => one(read_atom_exact(&bytes(left), 0, 99), 99),
+            "exact, budget 3" => one(read_atom_exact(&bytes(left), 0, 3), 3),
+            "filled" => one(read_atom(&bytes(left), 0, 99), 99),
+            "signature" => signature(&bytes(left)),
+            "file" => file(&bytes(left)),
+            "cuts" => cuts(&bytes(left)),
+            "written" => written(left),
+            _ => panic!("no block is called {block}"),
+        };
+        assert_eq!(answer, right, "{block}: {left}");
+        *ran.entry(block).or_insert(0) += 1;
+    }
+    let expected = [("cuts", 1), ("exact", 32), ("exact, budget 3", 5), ("file", 6), ("filled", 4), ("signature", 6), ("written", 11)];
+    assert_eq!(ran.into_iter().collect::<Vec<_>>(), expected);
+}
