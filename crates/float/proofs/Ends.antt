@@ -24,8 +24,9 @@ use Rattle.types.specs.declared.FloatAnswer.{FloatAnswer}
 use Rattle.types.specs.declared.FloatAnswer.the-variants as FA
 use Rattle.header.specs.Header.{headerBytes}
 use Rattle.lent.specs.Lent.{writtenAnswer, writtenContent}
-use Rattle.little.specs.Le.{numberAt, toLE}
+use Rattle.little.specs.Le.{numberAt, filledAt, toLE}
 use Rattle.little.specs.Counts.{listed}
+use Rattle.little.proofs.Zeros.{block-length, block-number}
 use Rattle.binary.specs.declared.Narrowed16 as N16
 use Rattle.binary.specs.declared.Narrowed32 as N32
 use Rattle.binary.specs.Formats.{half, single, double}
@@ -92,11 +93,23 @@ module _ (count : ℕ) where
       at + count ≤ long → at + 8 ≤ long
   eight-there at long a p q h = let e = allowed-last count a p q in omega arith
 
+  -- bytes that run past the end are read in a block, where all of them are there
+  module _ (s block : List ℕ) (at : ℕ) (b : block ≡ filledAt 16 s at) (a : allowedFloat count ≡ true) where
+    pub block-there : (from : ℕ) → from ≡ 0 → from + count ≤ length block
+    block-there from z = omega (arith, block-length 16 s at block b, allowed-most count a)
+
+    pub block-bits : (bits : ℕ) → bits ≡ numberAt count block 0 → bits ≡ numberAt count s at
+    block-bits bits e =
+        let few : count ≤ 16 = omega (arith, allowed-most count a) in
+        e ∙ block-number 16 s at block b count few
+
 pub ruleset allowed-ends = (two-allowed, four-allowed, eight-allowed, others-not-allowed, needs)
 
 pub ruleset of-counts = (float-of-two, float-of-four, float-of-eight, two-bytes-fit, four-bytes-fit)
 
-pub ruleset count-ends = (of-counts, bits-of, bits-below, eight-there, allowed-last, allowed-most, needs)
+pub ruleset count-ends = (of-counts, bits-of, bits-below, eight-there, allowed-last, needs)
+
+pub ruleset block-ends = (block-length, block-there, block-bits, needs)
 
 -- a float read at a place within the source, whose kind has a code
 module _ (way : Way) (s : List ℕ) (at count : ℕ) (kind : Kind) (code : ℕ) (d : code ≡ kindCode kind) where

@@ -3,7 +3,7 @@
 ghost use mathlib.Core.Path.{_≡_};
 ghost use mathlib.Core.List.{_++_};
 ghost use Prim.Native.Nat.{_≤_, _<_, _+_, _*_, _^_};
-ghost use lib.ListN.{length, drop, getD};
+ghost use lib.ListN.{length, drop};
 ghost use Rattle.types.specs.declared.Kind.{Kind};
 ghost use Rattle.types.specs.Kinds.{kindFrom, kindKnown};
 ghost use Rattle.lent.specs.Lent.{writtenAnswer, writtenContent};
@@ -76,12 +76,6 @@ pub fn write_atom_header(out: &mut [u8], kind: Kind, arg: u64) -> Written
     Written::Count(length)
 }
 
-fn wide(byte: u8) -> u64
-    ensures { λ r. ⌜ (r ≡ byte) × (r < 256) ⌝ }
-{
-    byte as u64
-}
-
 // The kind of a code of three bits.
 fn kind_of(code: u8) -> Kind
     ensures { λ r. ⌜ r ≡ kindKnown (kindFrom code) ⌝ }
@@ -115,7 +109,7 @@ fn read_later(source: &[u8], at: usize, kind: Kind, low: u64, way: Way) -> Heade
     while place < end {
         let byte = source[place];
         let data = byte % 128;
-        arg = arg | (wide(data) << offset);
+        arg = arg | (little::byte64(data) << offset);
         offset += 7;
         place += 1;
         if data == byte {
@@ -139,7 +133,7 @@ pub fn read_atom_header(source: &[u8], place: Place, way: Way) -> HeaderAnswer
     if at < source.len() {
         let first_byte = source[at];
         let kind = kind_of(first_byte / 32);
-        let low = wide(first_byte % 16);
+        let low = little::byte64(first_byte % 16);
         if first_byte / 16 % 2 == 0 {
             return HeaderAnswer::Read(Place(at + 1), kind, low);
         }
@@ -166,20 +160,8 @@ pub fn write_header(out: &mut [u8], version: u8) -> Written
     Written::Count(4)
 }
 
-// The byte at a place and a distance from it, zero past the end.
-fn byte_at(source: &[u8], at: usize, i: usize) -> u32
-    requires { ⌜ (at ≤ length (now source)) × (i < 4) ⌝ }
-    ensures { λ r. ⌜ (r ≡ getD (drop at (now (source .entry))) i 0) × (r < 256) ⌝ }
-{
-    let place = at + i;
-    if place < source.len() {
-        return source[place] as u32;
-    }
-    0
-}
-
 // Takes a signature's word if it has every bit of 'Pot'.
-fn judge(header: u32, place: Place) -> VersionAnswer
+fn judge(header: u64, place: Place) -> VersionAnswer
     ensures { λ r. ⌜ r ≡ judged header place ⌝ }
 {
     if header & 0x506F_7400 == 0x506F_7400 {
@@ -193,10 +175,10 @@ pub fn read_header(source: &[u8], place: Place, way: Way) -> VersionAnswer
     ensures { λ r. ⌜ r ≡ versionRead way (now (source .entry)) (place .0) ⌝ }
 {
     let at = place.within(source.len());
-    let header = byte_at(source, at, 0) * 0x100_0000
-        + byte_at(source, at, 1) * 0x1_0000
-        + byte_at(source, at, 2) * 0x100
-        + byte_at(source, at, 3);
+    let header = little::byte_at(source, at, 0) * 0x100_0000
+        + little::byte_at(source, at, 1) * 0x1_0000
+        + little::byte_at(source, at, 2) * 0x100
+        + little::byte_at(source, at, 3);
     if 4 <= source.len() - at {
         return judge(header, Place(at + 4));
     }

@@ -18,9 +18,11 @@ use Rattle.types.specs.declared.Kind.the-variants as K
 use Rattle.types.specs.declared.Integer.{Integer}
 use Rattle.types.specs.declared.Refusal.the-variants as R
 use Rattle.types.specs.declared.IntegerAnswer.the-variants as IA
-use Rattle.little.specs.Le.{numberAt}
+use Rattle.little.specs.Le.{numberAt, filledAt}
+use Rattle.little.proofs.Zeros.{block-length, block-number}
 use Rattle.integer.specs.Integers.{allowedCount, intOf, uintOf, integerKind, integerOf}
 use Rattle.integer.specs.Integers.{integerBody, integerFrom, integerRead}
+use Rattle.integer.proofs.Counts.{allowed-bounds}
 
 -- Int and UInt are the kinds of integers
 pub kind-of-integers : (kind known : Kind) → kind ≡ known → integerKind known ≡ true → true ≡ integerKind kind
@@ -53,6 +55,17 @@ module _ (count bits : ℕ) (value : Integer) where
   unsigned-kind K.Bytes h e = e
 
 pub ruleset kind-ends = (kind-of-integers, kind-of-others, signed-kind, unsigned-kind, needs)
+
+-- bytes that run past the end are read in a block, where all of them are there
+module _ (s block : List ℕ) (at count : ℕ) (b : block ≡ filledAt 16 s at) (a : allowedCount count ≡ true) where
+  pub block-there : (from : ℕ) → from ≡ 0 → from + count ≤ length block
+  block-there from z = omega (arith, block-length 16 s at block b, allowed-bounds count a .1)
+
+  pub block-value : (kind : Kind) (value : Integer) → value ≡ integerOf kind count (numberAt count block 0) →
+      value ≡ integerOf kind count (numberAt count s at)
+  block-value kind value e = cc (block-number 16 s at block b count (allowed-bounds count a .1))
+
+pub ruleset block-ends = (block-length, block-there, block-value, needs)
 
 -- an integer read at a place
 module _ (way : Way) (s : List ℕ) (place at : ℕ) (kind : Kind) (count : ℕ) (w : at ≡ placeIn (length s) place) where

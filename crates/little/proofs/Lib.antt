@@ -1,5 +1,6 @@
 pub mod Width
 pub mod At
+pub mod Zeros
 pub mod Two
 pub mod Signs
 pub mod Shortest
