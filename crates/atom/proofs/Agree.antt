@@ -30,7 +30,8 @@ use Rattle.reader.specs.Strings.{startOf}
 use Rattle.reader.proofs.Strings.{start-within}
 use Rattle.atom.specs.Charges.{countOf, numberCharge, budgetAfter}
 use Rattle.atom.specs.Atoms.{atomRead, atomFrom, atomAfter, charged, bytesAfter}
-use Rattle.atom.proofs.Numbers.{Number, integers, floats, numberBody, numberAfter, integer-number, float-number}
+use Rattle.atom.proofs.Numbers.{NumberForm, integers, floats, numberBody, numberAfter}
+use Rattle.atom.proofs.Numbers.{integer-number, float-number}
 use Rattle.atom.proofs.Forward.{atomPlace, after-on}
 
 -- what exact reading takes within the source, filled reading takes too
@@ -50,7 +51,7 @@ charged-filled next budget (BA.Refused r) f g p b x h e = e
 module _ (s : List ℕ) (budget : Budget) (scratch : List ℕ) (p : Place) (b : Budget) (x : Atom) where
   -- what follows a header: a number, and what has no other bytes
   module _ (arg : ℕ) (next : Place) where
-    number-filled : (n : Number) (exactly filled : AtomAnswer) →
+    number-filled : (n : NumberForm) (exactly filled : AtomAnswer) →
         exactly ≡ numberAfter n W.ExactLent s arg next budget → filled ≡ numberAfter n W.Filled s arg next budget →
         exactly ≡ A.Read p b x → filled ≡ A.Read p b x
     unfolding numberAfter

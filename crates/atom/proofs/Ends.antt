@@ -47,7 +47,7 @@ use Rattle.atom.specs.Charges.{countOf, numberCharge, budgetAfter}
 use Rattle.atom.specs.Atoms.{atomOf, specialNucleus, specialAtom, integerAfter, floatAfter, bytesAfter}
 use Rattle.atom.specs.Atoms.{scratchCharged, atomAfter, scratchAfter, atomRead, atomScratch}
 use Rattle.atom.proofs.Answers.{too-many}
-use Rattle.atom.proofs.Numbers.{Number, integers, floats, numberAfter, integer-number, float-number}
+use Rattle.atom.proofs.Numbers.{NumberForm, integers, floats, numberAfter, integer-number, float-number}
 
 -- what a number costs in memory
 module _ (count : ℕ) where
@@ -100,7 +100,7 @@ pub float-made : (arg count bits : ℕ) (value : Float) → value ≡ floatOf co
 float-made arg count bits value v = cc
 
 -- a number, once its header is read and its charge judged
-module _ (n : Number) (way : Way) (s : List ℕ) (arg : ℕ) (next : Place) (budget : Budget) where
+module _ (n : NumberForm) (way : Way) (s : List ℕ) (arg : ℕ) (next : Place) (budget : Budget) where
   module _ (count charge : ℕ) (paid : BudgetAnswer) (c : count ≡ countOf arg) (h : charge ≡ numberCharge count)
       (p : paid ≡ budgetAfter budget charge) where
     -- the charge exceeds the budget

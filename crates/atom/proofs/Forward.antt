@@ -36,7 +36,8 @@ use Rattle.reader.proofs.Strings.{start-within, start-same}
 use Rattle.reader.proofs.Delivered.{string-forward}
 use Rattle.atom.specs.Charges.{countOf, numberCharge}
 use Rattle.atom.specs.Atoms.{atomRead, atomFrom, atomAfter, specialAtom, charged, bytesAtom, bytesAfter}
-use Rattle.atom.proofs.Numbers.{Number, integers, floats, numberBody, numberAfter, integer-number, float-number}
+use Rattle.atom.proofs.Numbers.{NumberForm, integers, floats, numberBody, numberAfter}
+use Rattle.atom.proofs.Numbers.{integer-number, float-number}
 
 -- the place and the budget after, refused or not
 abbrev pub atomPlace : AtomAnswer → ℕ
@@ -81,7 +82,7 @@ special-on arg next budget end (SA.Refused r) h = header-on next budget end _ re
 
 module _ (way : Way) (s : List ℕ) (arg : ℕ) (next : Place) (budget : Budget) (scratch : List ℕ)
     (h : next .0 ≤ length s) where
-  number-on : (n : Number) → Onward (next .0) (length s) (budget .0) (numberAfter n way s arg next budget)
+  number-on : (n : NumberForm) → Onward (next .0) (length s) (budget .0) (numberAfter n way s arg next budget)
   unfolding numberAfter
   number-on n =
       charged-on next budget (numberCharge (countOf arg)) (length s) (numberBody n way s arg next (countOf arg)) h

@@ -30,20 +30,20 @@ use Rattle.float.specs.Floats.{allowedFloat, floatOf, floatFrom, floatBody}
 use Rattle.atom.specs.Charges.{countOf, numberCharge, budgetAfter}
 use Rattle.atom.specs.Atoms.{atomOf, charged, integerAtom, floatAtom, integerAfter, floatAfter}
 
-pub record Number : Type 0 where
+pub record NumberForm : Type 0 where
   pub kind : Kind
   pub allowed : ℕ → Bool
   pub nucleus : ℕ → ℕ → Nucleus
 
-abbrev pub integers : Kind → Number
+abbrev pub integers : Kind → NumberForm
 integers kind =
     record { kind = kind; allowed = allowedCount; nucleus = λ count bits. N.Integer (integerOf kind count bits) }
 
-abbrev pub floats : Number
+abbrev pub floats : NumberForm
 floats = record { kind = K.Float; allowed = allowedFloat; nucleus = λ count bits. N.Float (floatOf count bits) bits }
 
 -- the count is judged, then the end of input
-abbrev pub numberBody : Number → Way → List ℕ → ℕ → Place → ℕ → Budget → AtomAnswer
+abbrev pub numberBody : NumberForm → Way → List ℕ → ℕ → Place → ℕ → Budget → AtomAnswer
 numberBody n way s arg next count rest =
     pick (n .allowed count)
     (upTo way (length s) (next .0 + count)
@@ -52,7 +52,7 @@ numberBody n way s arg next count rest =
     (A.Refused next rest (R.UnsupportedByteCount (n .kind) count))
 
 -- and the charge before both
-unfoldable pub numberAfter : Number → Way → List ℕ → ℕ → Place → Budget → AtomAnswer
+unfoldable pub numberAfter : NumberForm → Way → List ℕ → ℕ → Place → Budget → AtomAnswer
 numberAfter n way s arg next budget =
     charged next budget (budgetAfter budget (numberCharge (countOf arg))) (numberBody n way s arg next (countOf arg))
 

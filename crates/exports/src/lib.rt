@@ -27,7 +27,7 @@ ghost use Rattle.dictionary.specs.Steps.{skipped};
 ghost use Rattle.dictionary.specs.Runs.{runAll, tallyAll};
 ghost use Rattle.words.specs.Layout.{numberOf, wordsOf, unlessShort, saidAtom, saidSkipped, saidRan, saidTally, saidVersion, saidWritten};
 ghost use Rattle.words.specs.Layout.{saidRefused, saidWord, saidCast, saidAsInteger, saidAsF32, saidAsF64, saidNarrowed};
-ghost use Rattle.recast.specs.Recasts.{recast, integerFrom, ofInteger};
+ghost use Rattle.recast.specs.Recasts.{recast, integerOfWords, ofInteger};
 ghost use Rattle.exports.specs.Named.{ofKind, ofSpecial};
 use types::AsInteger;
 use types::Budget;
@@ -503,9 +503,9 @@ pub extern "C" fn pot_write_integer(
     high: u64,
     words: &mut [u64],
 ) -> u64
-    ensures { λ r. ⌜ r ≡ numberOf (saidWritten (ofInteger (λ k. writtenAnswer (valueBytes k) (now (out .entry))) Refused (integerFrom variant (record { lo = low; hi = high })))) (now (words .entry)) ⌝ }
-    ensures { λ r. ⌜ now (words .exit) ≡ wordsOf (saidWritten (ofInteger (λ k. writtenAnswer (valueBytes k) (now (out .entry))) Refused (integerFrom variant (record { lo = low; hi = high })))) (now (words .entry)) ⌝ }
-    ensures { λ r. ⌜ now (out .exit) ≡ unlessShort (now (words .entry)) (now (out .entry)) (ofInteger (λ k. writtenContent (valueBytes k) (now (out .entry))) (λ r. (now (out .entry))) (integerFrom variant (record { lo = low; hi = high }))) ⌝ }
+    ensures { λ r. ⌜ r ≡ numberOf (saidWritten (ofInteger (λ k. writtenAnswer (valueBytes k) (now (out .entry))) Refused (integerOfWords variant (record { lo = low; hi = high })))) (now (words .entry)) ⌝ }
+    ensures { λ r. ⌜ now (words .exit) ≡ wordsOf (saidWritten (ofInteger (λ k. writtenAnswer (valueBytes k) (now (out .entry))) Refused (integerOfWords variant (record { lo = low; hi = high })))) (now (words .entry)) ⌝ }
+    ensures { λ r. ⌜ now (out .exit) ≡ unlessShort (now (words .entry)) (now (out .entry)) (ofInteger (λ k. writtenContent (valueBytes k) (now (out .entry))) (λ r. (now (out .entry))) (integerOfWords variant (record { lo = low; hi = high }))) ⌝ }
 {
     if words.len() < 8 {
         return 9;
@@ -542,8 +542,8 @@ pub extern "C" fn pot_integer_cast(
     high: u64,
     words: &mut [u64],
 ) -> u64
-    ensures { λ r. ⌜ r ≡ numberOf (ofInteger (λ x. saidCast (recast to x)) saidRefused (integerFrom variant (record { lo = low; hi = high }))) (now (words .entry)) ⌝ }
-    ensures { λ r. ⌜ now (words .exit) ≡ wordsOf (ofInteger (λ x. saidCast (recast to x)) saidRefused (integerFrom variant (record { lo = low; hi = high }))) (now (words .entry)) ⌝ }
+    ensures { λ r. ⌜ r ≡ numberOf (ofInteger (λ x. saidCast (recast to x)) saidRefused (integerOfWords variant (record { lo = low; hi = high }))) (now (words .entry)) ⌝ }
+    ensures { λ r. ⌜ now (words .exit) ≡ wordsOf (ofInteger (λ x. saidCast (recast to x)) saidRefused (integerOfWords variant (record { lo = low; hi = high }))) (now (words .entry)) ⌝ }
 {
     match recast::integer_from(variant, low, high) {
         AsInteger::Value(x) => return words::say_cast(words, recast::recast(to, x)),
@@ -554,8 +554,8 @@ pub extern "C" fn pot_integer_cast(
 // Casts an integer to an f32.
 #[no_mangle]
 pub extern "C" fn pot_integer_as_f32(variant: u64, low: u64, high: u64, words: &mut [u64]) -> u64
-    ensures { λ r. ⌜ r ≡ numberOf (ofInteger (λ x. saidAsF32 (asF32 x)) saidRefused (integerFrom variant (record { lo = low; hi = high }))) (now (words .entry)) ⌝ }
-    ensures { λ r. ⌜ now (words .exit) ≡ wordsOf (ofInteger (λ x. saidAsF32 (asF32 x)) saidRefused (integerFrom variant (record { lo = low; hi = high }))) (now (words .entry)) ⌝ }
+    ensures { λ r. ⌜ r ≡ numberOf (ofInteger (λ x. saidAsF32 (asF32 x)) saidRefused (integerOfWords variant (record { lo = low; hi = high }))) (now (words .entry)) ⌝ }
+    ensures { λ r. ⌜ now (words .exit) ≡ wordsOf (ofInteger (λ x. saidAsF32 (asF32 x)) saidRefused (integerOfWords variant (record { lo = low; hi = high }))) (now (words .entry)) ⌝ }
 {
     match recast::integer_from(variant, low, high) {
         AsInteger::Value(x) => return words::say_as_f32(words, cast::as_f32(x)),
@@ -566,8 +566,8 @@ pub extern "C" fn pot_integer_as_f32(variant: u64, low: u64, high: u64, words: &
 // Casts an integer to an f64.
 #[no_mangle]
 pub extern "C" fn pot_integer_as_f64(variant: u64, low: u64, high: u64, words: &mut [u64]) -> u64
-    ensures { λ r. ⌜ r ≡ numberOf (ofInteger (λ x. saidAsF64 (asF64 x)) saidRefused (integerFrom variant (record { lo = low; hi = high }))) (now (words .entry)) ⌝ }
-    ensures { λ r. ⌜ now (words .exit) ≡ wordsOf (ofInteger (λ x. saidAsF64 (asF64 x)) saidRefused (integerFrom variant (record { lo = low; hi = high }))) (now (words .entry)) ⌝ }
+    ensures { λ r. ⌜ r ≡ numberOf (ofInteger (λ x. saidAsF64 (asF64 x)) saidRefused (integerOfWords variant (record { lo = low; hi = high }))) (now (words .entry)) ⌝ }
+    ensures { λ r. ⌜ now (words .exit) ≡ wordsOf (ofInteger (λ x. saidAsF64 (asF64 x)) saidRefused (integerOfWords variant (record { lo = low; hi = high }))) (now (words .entry)) ⌝ }
 {
     match recast::integer_from(variant, low, high) {
         AsInteger::Value(x) => return words::say_as_f64(words, cast::as_f64(x)),

@@ -47,13 +47,20 @@ module _ (n : ℕ) (s : List ℕ) (at : ℕ) where
   filled-number count h =
       ap fromLE (take-take count n (drop at s ++ replicate n 0) h) ∙ number-zeros count (drop at s) n 0
 
--- what a reader has of a block that is filled: its length, and the number of any count of its bytes
+-- what a reader has of a block that is filled: its length, room for any count of bytes up to that, and their number
 module _ (n : ℕ) (s : List ℕ) (at : ℕ) (block : List ℕ) (b : block ≡ filledAt n s at) where
   pub block-length : n ≡ length block
   block-length = sym (ap length b ∙ filled-length n s at)
 
-  pub block-number : (count : ℕ) → count ≤ n → numberAt count block 0 ≡ numberAt count s at
-  block-number count h = ap (λ (l : List ℕ). numberAt count l 0) b ∙ filled-number n s at count h
+  module _ (count : ℕ) (few : count ≤ n) where
+    pub block-room : (from : ℕ) → from ≡ 0 → from + count ≤ length block
+    block-room from z = omega (arith, block-length)
+
+    pub block-number : (bits : ℕ) → bits ≡ numberAt count block 0 → bits ≡ numberAt count s at
+    block-number bits e =
+        e ∙ ap (λ (l : List ℕ). numberAt count l 0) b ∙ filled-number n s at count few
+
+pub ruleset block-laws = (block-length, block-room, block-number)
 
 -- The loop that fills a block: so many of its bytes are there, and the rest zero.
 pub record Filling (n : ℕ) (s : List ℕ) (at : ℕ) (block : List ℕ) (i : ℕ) : Type 0 where

@@ -291,8 +291,8 @@ module _ (way : Way) (before after : List ℕ) (budget : Budget) (scratch : List
   read-back (f64-bits bits h) b r =
       let S = stored-double bits h in
       stored-read (f64-bits bits h) 8 bits S b (f64-bits-carried (record { same-meaning = meaning-kept 8 bits (written (f64-bits bits h)) (eight refl) S; nan-kept = λ s t e. S .nan-kept s t e .1 }))
-  read-back (f32 x h) b r = stored-read (f32 x h) 4 (floats.valueBits (F.F32 x)) (floats.stored-value (F.F32 x) h) b (f32-carried (floats.value-back (F.F32 x) h))
-  read-back (f64 x h) b r = stored-read (f64 x h) 8 (floats.valueBits (F.F64 x)) (floats.stored-value (F.F64 x) h) b (f64-carried (floats.value-back (F.F64 x) h))
+  read-back (f32 x h) b r = stored-read (f32 x h) 4 (floats.ownBits (F.F32 x)) (floats.stored-value (F.F32 x) h) b (f32-carried (floats.value-back (F.F32 x) h))
+  read-back (f64 x h) b r = stored-read (f64 x h) 8 (floats.ownBits (F.F64 x)) (floats.stored-value (F.F64 x) h) b (f64-carried (floats.value-back (F.F64 x) h))
   read-back (special s) b r =
       back-as (special s) 0 (atomOf K.Special (specialCode s) (specialNucleus s)) (price-alone K.Special (specialCode s) (small s))
       (special-back way s before after budget scratch ∙ ap (λ (n : ℕ). A.Read (record { 0 = length before + length (written (special s)) }) (record { 0 = n }) (atomOf K.Special (specialCode s) (specialNucleus s))) (less-nothing (budget .0)))

@@ -33,7 +33,7 @@ use Rattle.types.specs.declared.TallyAnswer.the-variants as TA
 use Rattle.header.specs.Header.{headerRead}
 use Rattle.binary.specs.Formats.{Layout, half, single, double, finite, infinite, nan, meaning, SameValue}
 use Rattle.binary.specs.Formats as Formats
-use Rattle.binary.specs.Conversions.{widened, narrowed, exact}
+use Rattle.binary.specs.Conversions.{widened, narrowed, kept}
 use Rattle.binary.specs.Floats.{floatMeaning, plain, layoutOf}
 use Rattle.binary.proofs.Values.{ofBits-means}
 use Rattle.binary.proofs.Widths.{half-single, single-double}
@@ -130,11 +130,11 @@ pub record Ieee754 : Type 0 where
   -- the value of a pattern is what it means
   pub valued : (format : Format) (bits : ℕ) → floatMeaning (ofBits format bits) ≡ plain (meaning (layoutOf format) bits)
   -- widening keeps it
-  pub widens-half : (bits : ℕ) → Formats.Number (meaning half bits) → meaning single (widened half single bits) ≡ meaning half bits
-  pub widens-single : (bits : ℕ) → Formats.Number (meaning single bits) → meaning double (widened single double bits) ≡ meaning single bits
+  pub widens-half : (bits : ℕ) → Formats.NotNan (meaning half bits) → meaning single (widened half single bits) ≡ meaning half bits
+  pub widens-single : (bits : ℕ) → Formats.NotNan (meaning single bits) → meaning double (widened single double bits) ≡ meaning single bits
   -- narrowing answers a pattern of that value, and every one that there is
-  pub narrows : (from to : Layout) (bits pattern : ℕ) → narrowed from to bits ≡ exact pattern → SameValue from to bits pattern
-  pub narrows-all : (from to : Layout) (bits pattern : ℕ) → SameValue from to bits pattern → narrowed from to bits ≡ exact pattern
+  pub narrows : (from to : Layout) (bits pattern : ℕ) → narrowed from to bits ≡ kept pattern → SameValue from to bits pattern
+  pub narrows-all : (from to : Layout) (bits pattern : ℕ) → SameValue from to bits pattern → narrowed from to bits ≡ kept pattern
 
 pub demand2-floats : Ieee754
 demand2-floats = record {
@@ -207,8 +207,8 @@ demand2-whole-floats x = record {
 
 -- AN F64 IS AN F32 if binary32 has a pattern of the same meaning.
 pub record NarrowedRows (x : Float) : Type 0 where
-  pub equal : (pattern : ℕ) → pattern < 2 * Formats.signWeight single → Formats.Number (meaning single pattern) → meaning single pattern ≡ floatMeaning x → asF32 (F.F64 x) ≡ AsF32.Value x
-  pub none-equal : ((pattern : ℕ) → pattern < 2 * Formats.signWeight single → Formats.Number (meaning single pattern) → meaning single pattern ≡ floatMeaning x → ⊥) → asF32 (F.F64 x) ≡ AsF32.Refused R.ImpreciseCastWouldLoseData
+  pub equal : (pattern : ℕ) → pattern < 2 * Formats.signWeight single → Formats.NotNan (meaning single pattern) → meaning single pattern ≡ floatMeaning x → asF32 (F.F64 x) ≡ AsF32.Value x
+  pub none-equal : ((pattern : ℕ) → pattern < 2 * Formats.signWeight single → Formats.NotNan (meaning single pattern) → meaning single pattern ≡ floatMeaning x → ⊥) → asF32 (F.F64 x) ≡ AsF32.Refused R.ImpreciseCastWouldLoseData
 
 pub demand2-narrowed : (x : Float) → T (fits binary64 x) → NarrowedRows x
 demand2-narrowed x f = record { equal = FloatCasts.equal-taken x f; none-equal = FloatCasts.unequal-refused x f }

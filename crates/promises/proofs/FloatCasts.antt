@@ -13,8 +13,8 @@ use Rattle.types.specs.declared.Float.the-variants as F
 use Rattle.types.specs.declared.Refusal.the-variants as R
 use Rattle.types.specs.declared.AsF32.the-variants as AsF32
 use Rattle.types.specs.declared.AsF64.the-variants as AsF64
-use Rattle.binary.specs.Formats.{single, double, signWeight, Meaning, finite, infinite, nan, meaning, Number}
-use Rattle.binary.specs.Conversions.{Narrowed, exact, lost, narrowedMeaning, narrowed}
+use Rattle.binary.specs.Formats.{single, double, signWeight, Meaning, finite, infinite, nan, meaning, NotNan}
+use Rattle.binary.specs.Conversions.{Narrowed, kept, lost, narrowedMeaning, narrowed}
 use Rattle.binary.specs.Floats.{floatMeaning, plain}
 use Rattle.binary.proofs.Values.{toBits-means}
 use Rattle.binary.proofs.Laws.{narrowed-sound, narrowed-complete}
@@ -23,43 +23,43 @@ use Rattle.cast.specs.Casts as Casts
 use Rattle.float.specs.Values as Values
 
 -- a number's meaning is the meaning of its bits
-plain-number : (m n : Meaning) → plain m ≡ n → Number n → m ≡ n
+plain-number : (m n : Meaning) → plain m ≡ n → NotNan n → m ≡ n
 plain-number (finite s k) n e h = e
 plain-number (infinite s) n e h = e
-plain-number (nan s t) n e h = absurd (subst Number (sym e) h)
+plain-number (nan s t) n e h = absurd (subst NotNan (sym e) h)
 
 module _ (x : Ieee.Float) (f : T (Ieee.fits Ieee.binary64 x)) where
-  bits-mean : Number (floatMeaning x) → meaning double (Ieee.toBits Ieee.binary64 x) ≡ floatMeaning x
+  bits-mean : NotNan (floatMeaning x) → meaning double (Ieee.toBits Ieee.binary64 x) ≡ floatMeaning x
   bits-mean n = plain-number (meaning double (Ieee.toBits Ieee.binary64 x)) (floatMeaning x) (toBits-means Ieee.binary64 x f) n
 
-  bits-narrow : Number (floatMeaning x) → narrowed double single (Ieee.toBits Ieee.binary64 x) ≡ narrowedMeaning single (floatMeaning x)
+  bits-narrow : NotNan (floatMeaning x) → narrowed double single (Ieee.toBits Ieee.binary64 x) ≡ narrowedMeaning single (floatMeaning x)
   unfolding narrowed
   bits-narrow n = ap (narrowedMeaning single) (bits-mean n)
 
   -- an equal binary32 value: the value is taken
-  pub equal-taken : (q : ℕ) → q < 2 * signWeight single → Number (meaning single q) → meaning single q ≡ floatMeaning x → Values.asF32 (F.F64 x) ≡ AsF32.Value x
+  pub equal-taken : (q : ℕ) → q < 2 * signWeight single → NotNan (meaning single q) → meaning single q ≡ floatMeaning x → Values.asF32 (F.F64 x) ≡ AsF32.Value x
   unfolding Values.asF32
   equal-taken q l n e =
-      let k : Number (floatMeaning x) = subst Number e n in
+      let k : NotNan (floatMeaning x) = subst NotNan e n in
       let same = bits-mean k in
-      let found = narrowed-complete double single (Ieee.toBits Ieee.binary64 x) q (l, subst Number (sym same) k, e ∙ sym same) in
+      let found = narrowed-complete double single (Ieee.toBits Ieee.binary64 x) q (l, subst NotNan (sym same) k, e ∙ sym same) in
       ap (Values.ifEqual x) (sym (bits-narrow k) ∙ found)
 
   -- none: refused
-  pub unequal-refused : ((q : ℕ) → q < 2 * signWeight single → Number (meaning single q) → meaning single q ≡ floatMeaning x → ⊥) → Values.asF32 (F.F64 x) ≡ AsF32.Refused R.ImpreciseCastWouldLoseData
+  pub unequal-refused : ((q : ℕ) → q < 2 * signWeight single → NotNan (meaning single q) → meaning single q ≡ floatMeaning x → ⊥) → Values.asF32 (F.F64 x) ≡ AsF32.Refused R.ImpreciseCastWouldLoseData
   unfolding Values.asF32
   unequal-refused none = by (floatMeaning x) refl
     where
-      found : Number (floatMeaning x) → (r : Narrowed) → narrowed double single (Ieee.toBits Ieee.binary64 x) ≡ r → Values.ifEqual x (narrowedMeaning single (floatMeaning x)) ≡ AsF32.Refused R.ImpreciseCastWouldLoseData
-      found k (exact q) h =
+      found : NotNan (floatMeaning x) → (r : Narrowed) → narrowed double single (Ieee.toBits Ieee.binary64 x) ≡ r → Values.ifEqual x (narrowedMeaning single (floatMeaning x)) ≡ AsF32.Refused R.ImpreciseCastWouldLoseData
+      found k (kept q) h =
           let v = narrowed-sound double single (Ieee.toBits Ieee.binary64 x) q h in
           let e = v .2 ∙ bits-mean k in
-          absurd (none q (v .0) (subst Number (sym e) k) e)
+          absurd (none q (v .0) (subst NotNan (sym e) k) e)
       found k lost h = ap (Values.ifEqual x) (sym (bits-narrow k) ∙ h)
 
       by : (m : Meaning) → floatMeaning x ≡ m → Values.ifEqual x (narrowedMeaning single (floatMeaning x)) ≡ AsF32.Refused R.ImpreciseCastWouldLoseData
-      by (finite s m) e = found (subst Number (sym e) tt) (narrowed double single (Ieee.toBits Ieee.binary64 x)) refl
-      by (infinite s) e = found (subst Number (sym e) tt) (narrowed double single (Ieee.toBits Ieee.binary64 x)) refl
+      by (finite s m) e = found (subst NotNan (sym e) tt) (narrowed double single (Ieee.toBits Ieee.binary64 x)) refl
+      by (infinite s) e = found (subst NotNan (sym e) tt) (narrowed double single (Ieee.toBits Ieee.binary64 x)) refl
       by (nan s t) e = ap (λ (m : Meaning). Values.ifEqual x (narrowedMeaning single m)) e
 
 module _ (x : Integer) where
