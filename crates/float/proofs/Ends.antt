@@ -11,11 +11,13 @@ use lib.ListN.{length}
 use Rattle.types.specs.Counters.{placeIn}
 use Rattle.types.specs.Kinds.{kindCode}
 use Rattle.types.specs.Ways.{exact}
+use Rattle.types.specs.Forms.{listed, allowedFloat, unsupported}
 use Rattle.types.specs.declared.Way.{Way}
 use Rattle.types.specs.declared.Kind.{Kind}
 use Rattle.types.specs.declared.Kind.the-variants as K
 use Rattle.types.specs.declared.Float.{Float}
 use Rattle.types.specs.declared.Float.the-variants as F
+use Rattle.types.specs.declared.Refusal.{Refusal}
 use Rattle.types.specs.declared.Refusal.the-variants as R
 use Rattle.types.specs.declared.Written.{Written}
 use Rattle.types.specs.declared.AsF32.{AsF32}
@@ -25,14 +27,13 @@ use Rattle.types.specs.declared.FloatAnswer.the-variants as FA
 use Rattle.header.specs.Header.{headerBytes}
 use Rattle.lent.specs.Lent.{writtenAnswer, writtenContent}
 use Rattle.little.specs.Le.{numberAt, toLE}
-use Rattle.little.specs.Counts.{listed}
 use Rattle.binary.specs.declared.Narrowed16 as N16
 use Rattle.binary.specs.declared.Narrowed32 as N32
 use Rattle.binary.specs.Formats.{half, single, double}
 use Rattle.binary.specs.Conversions.{widened, narrowed, narrowedMeaning, answer16, answer32}
 use Rattle.binary.specs.Floats.{floatMeaning}
 use Rattle.binary.proofs.Laws.{exact16, lost16, exact32, lost32}
-use Rattle.float.specs.Floats.{allowedFloat, floatOf, floatBody, floatFrom, floatRead}
+use Rattle.float.specs.Floats.{floatOf, floatBody, floatFrom, floatRead}
 use Rattle.float.specs.Bytes.{floatBytes, f32Bytes, f64Bytes, valueBytes}
 use Rattle.float.specs.Values.{floatValue, atMost, isZero, asF32, ifEqual, equalNumbers, equalFloats}
 use Rattle.float.proofs.Counts.{allowed-most, allowed-last}
@@ -108,10 +109,10 @@ module _ (way : Way) (s : List ℕ) (at count : ℕ) (kind : Kind) (code : ℕ) 
 
   module _ (k : code ≡ 3) where
     -- of a count that is not allowed
-    pub count-refused : allowedFloat count ≡ false →
-        FA.Refused (record { 0 = at }) (R.UnsupportedByteCount K.Float count) ≡ floatFrom way s at kind count
+    pub count-refused : (why : Refusal) → why ≡ unsupported K.Float count → allowedFloat count ≡ false →
+        FA.Refused (record { 0 = at }) why ≡ floatFrom way s at kind count
     unfolding floatFrom
-    count-refused a = cc (eq-eqb code 3 k)
+    count-refused why r a = cc (eq-eqb code 3 k)
 
     -- that is allowed: the bytes are there; they are not, in exact reading, and in filled reading
     module _ (a : allowedFloat count ≡ true) (within : at ≤ length s) where

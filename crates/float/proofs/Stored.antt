@@ -7,6 +7,7 @@ use Prim.Native.Nat.{ℕ, _*_, _^_, _≤_, _<_}
 use native.Mathlib.Omega.{arith}
 use lib.Dec.{lit<}
 use lib.Ieee.{binary32, binary64, ofBits}
+use Rattle.types.specs.Forms.{allowedFloat}
 use Rattle.binary.specs.Formats.{Layout, half, single, double, signWeight, Meaning, finite, infinite, nan, meaning, Number, SameValue}
 use Rattle.binary.specs.Conversions.{signed, infinity, Narrowed, exact, lost, widened, narrowed}
 use Rattle.binary.specs.Floats.{floatMeaning, plain}
@@ -14,7 +15,7 @@ use Rattle.binary.proofs.Patterns.{one-pattern}
 use Rattle.binary.proofs.Widths.{half-single}
 use Rattle.binary.proofs.Laws.{narrowed-sound, narrowed-lost, narrowed-nan, narrowed-zero, narrowed-infinite, widened-lt, widened-keeps, widened-narrowed, widened-nan}
 use Rattle.binary.proofs.Values.{ofBits-means, narrowed-value}
-use Rattle.float.specs.Floats.{allowedFloat, floatOf, layoutAt}
+use Rattle.float.specs.Floats.{floatOf, layoutAt}
 use Rattle.float.specs.Bytes.{floatBytes, f32Bytes, f64Bytes}
 use Rattle.float.specs.Values.{floatValue, floatMeans}
 use Rattle.float.proofs.Counts.{Allowed, two, four, eight, allowed-is, is-allowed}

@@ -17,6 +17,7 @@ use Rattle.types.specs.Choice.{pick}
 use Rattle.types.specs.Ways.{exact}
 use Rattle.types.specs.Counters.{placeIn}
 use Rattle.types.specs.Kinds.{kindCode, kindFrom, specialFrom}
+use Rattle.types.specs.Forms.{allowedCount, allowedFloat, countOf, numberCharge, known, bodyLength, chargeOf, isString}
 use Rattle.types.specs.declared.Way.{Way}
 use Rattle.types.specs.declared.Kind.{Kind}
 use Rattle.types.specs.declared.Kind.the-variants as K
@@ -35,12 +36,10 @@ use Rattle.header.specs.Header.{headerRead, headerFrom, headerLength, headerKin
 use Rattle.reader.specs.Strings.{stringAnswer, stringScratch, scratchNeeded, startOf}
 use Rattle.reader.proofs.Delivered.{Outcome, whole, cut, cramped, outcome, string-read, string-eof, string-no-room}
 use Rattle.reader.proofs.Strings.{start-same}
-use Rattle.integer.specs.Integers.{integerKind, allowedCount, integerFrom, integerBody}
-use Rattle.float.specs.Floats.{allowedFloat, floatFrom, floatBody}
-use Rattle.atom.specs.Charges.{countOf, numberCharge}
+use Rattle.integer.specs.Integers.{integerKind, integerFrom, integerBody}
+use Rattle.float.specs.Floats.{floatFrom, floatBody}
 use Rattle.atom.proofs.Back.{paid}
 use Rattle.atom.specs.Atoms.{atomRead, atomScratch, atomFrom, scratchFrom, atomAfter, scratchAfter, charged, specialAtom, integerAfter, integerAtom, floatAfter, floatAtom, bytesAfter, bytesAtom, scratchCharged}
-use Rattle.dictionary.specs.Wholes.{known, bodyLength, chargeOf, isString}
 use Rattle.promises.specs.Told.{Told, told, toldAtom}
 use Rattle.promises.specs.Rows.{Row, three, four-in-header, four-in-body, five, six, nine, read, Good, Number, int, uint, float, canEnd, roomOf, refusal, taking, endOf, less, shown}
 

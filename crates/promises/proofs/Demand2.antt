@@ -32,7 +32,7 @@ use Rattle.little.specs.Counts.{holdsS, holdsU, shortestS, shortestU}
 use Rattle.little.proofs.Width.{to-length}
 use Rattle.little.proofs.Two.{bits-lt}
 use Rattle.little.proofs.Shortest.{shortestS-holds, shortestS-listed, shortestU-holds, shortestU-listed}
-use Rattle.integer.specs.Integers.{allowedCount, integerKind, integerOf, intOf, uintOf, integerBody}
+use Rattle.integer.specs.Integers.{integerKind, integerOf, intOf, uintOf, integerBody}
 use Rattle.types.specs.declared.IntegerAnswer.the-variants as IA
 use Rattle.types.specs.Counters.{placeIn}
 use borrow.Author.Tests.{ltb-true, lt-ltb}
@@ -45,11 +45,10 @@ use Rattle.float.specs.Bytes.{floatBytes}
 use Rattle.float.proofs.Counts.{Allowed, two, four, eight, allowed-is}
 use Rattle.float.proofs.Stored.{Stored, stored-single, stored-double, meaning-kept}
 use Rattle.float.proofs.RoundTrip as floats
-use Rattle.atom.specs.Charges.{countOf, numberCharge}
 use Rattle.atom.specs.Atoms.{specialNucleus, atomRead, atomScratch, scratchFrom, scratchCharged, atomFrom, atomAfter, atomOf, integerAfter, integerAtom, floatAtom}
 use Rattle.atom.proofs.Back.{atom-back, paid, bytes-back, special-back}
 use Rattle.atom.proofs.Answers.{integer-left, float-left}
-use Rattle.dictionary.specs.Wholes.{price, chargeOf}
+use Rattle.dictionary.specs.Wholes.{price}
 use Rattle.types.specs.Kinds.{specialCode}
 use Rattle.types.specs.declared.Atom.{Atom}
 use Rattle.types.specs.declared.Special.{Special}
@@ -58,6 +57,7 @@ use Rattle.types.specs.declared.Integer.{Integer}
 use Rattle.types.specs.declared.Integer.the-variants as I
 use Rattle.types.specs.declared.Float.the-variants as F
 use Rattle.types.specs.Values.{joined, joinedSigned, value}
+use Rattle.types.specs.Forms.{allowedCount, countOf, numberCharge, chargeOf}
 use Rattle.cast.specs.Variants.{sign, width, inRange}
 use Rattle.promises.specs.Rows.{Number, int, uint, float}
 use Rattle.promises.specs.Values.{Value, number, natural, integer, f32-bits, f64-bits, f32, f64, special, string, header, HeaderOnly, sequence, map, symbol, kindOf, written, roomFor, Carries, number-carried, natural-carried, integer-carried, f32-bits-carried, f64-bits-carried, f32-carried, f64-carried, special-carried, string-carried, header-carried, ReadBack}

@@ -11,6 +11,7 @@ use borrow.Author.Tests.{leb-true, leb-false}
 use Rattle.types.specs.Choice.{pick}
 use Rattle.types.specs.Counters.{placeIn}
 use Rattle.types.specs.Kinds.{specialFrom}
+use Rattle.types.specs.Forms.{allowedCount, allowedFloat, countOf, numberCharge}
 use Rattle.types.specs.declared.Way.the-variants as W
 use Rattle.types.specs.declared.Kind.{Kind}
 use Rattle.types.specs.declared.Kind.the-variants as K
@@ -30,11 +31,10 @@ use Rattle.types.proofs.Places.{place-within}
 use Rattle.types.proofs.Specials.{special-unknown}
 use Rattle.header.specs.Header.{headerFrom, headerKind, headerLength, headerArgument, laterCount, laterValue}
 use Rattle.little.specs.Le.{numberAt}
-use Rattle.integer.specs.Integers.{integerKind, allowedCount, integerFrom}
+use Rattle.integer.specs.Integers.{integerKind, integerFrom}
 use Rattle.integer.proofs.Answers as integers
-use Rattle.float.specs.Floats.{allowedFloat, floatOf, floatFrom}
+use Rattle.float.specs.Floats.{floatOf, floatFrom}
 use Rattle.float.proofs.Answers as floats
-use Rattle.atom.specs.Charges.{countOf, numberCharge}
 use Rattle.atom.specs.Atoms.{atomOf, atomRead, atomFrom, atomAfter, specialAtom, charged, integerAtom, integerAfter, floatAtom, floatAfter}
 
 -- AN EMPTY SLICE answers None at place 0, whatever the place given, and leaves the budget

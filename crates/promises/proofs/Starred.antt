@@ -7,6 +7,7 @@ use lib.IntN.{pos, negsuc}
 use lib.ListN.{replicate}
 use lib.Ieee.{ofInt, size}
 use Rattle.types.specs.Kinds.{kindCode}
+use Rattle.types.specs.Forms.{listed}
 use Rattle.types.specs.declared.Way.the-variants as W
 use Rattle.types.specs.declared.Kind.the-variants as K
 use Rattle.types.specs.declared.Integer.the-variants as I
@@ -15,7 +16,7 @@ use Rattle.header.specs.Header.{headerBytes, laterBytes, headerRead, headerFrom
 use Rattle.header.specs.Signature.{versionRead, versionFrom, bigEndian, everyBit}
 use Rattle.little.specs.Le.{toLE, fromLE, numberAt}
 use Rattle.little.specs.Twos.{twos, twosBits}
-use Rattle.little.specs.Counts.{holdsS, holdsU, firstThat, shortestS, shortestU, listed}
+use Rattle.little.specs.Counts.{holdsS, holdsU, firstThat, shortestS, shortestU}
 use Rattle.integer.specs.Integers.{integerFrom, integerBody, intOf, uintOf}
 use Rattle.writers.specs.Bytes.{signedBytes, integerBytes}
 use Rattle.binary.specs.Formats.{single, finite, meaning, smallests}
