@@ -1,5 +1,5 @@
 -- Exact reading succeeds exactly on the atoms that are whole and of a known form, from a budget of at least their
--- charge. What is whole and known is said over the bytes from the atom's place on, by `dictionary.Wholes`.
+-- charge. What is whole and known is said over the bytes from the atom's place on, by `types.Forms`.
 use mathlib.Core.Path.{_≡_, refl, _∙_, sym, ap}
 use mathlib.Core.Bool.{Bool, true, false, false≢true}
 use mathlib.Core.List.{List, []}
