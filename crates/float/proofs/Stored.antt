@@ -7,14 +7,17 @@ use Prim.Native.Nat.{ℕ, _*_, _^_, _≤_, _<_}
 use native.Mathlib.Omega.{arith}
 use lib.Dec.{lit<}
 use lib.Ieee.{binary32, binary64, ofBits}
-use Rattle.binary.specs.Formats.{Layout, half, single, double, signWeight, Meaning, finite, infinite, nan, meaning, NotNan, SameValue}
+use Rattle.types.specs.Forms.{allowedFloat}
+use Rattle.binary.specs.Formats.{Layout, half, single, double, signWeight, Meaning, finite, infinite, nan, meaning}
+use Rattle.binary.specs.Formats.{NotNan, SameValue}
 use Rattle.binary.specs.Conversions.{withSign, infinity, Narrowed, kept, lost, widened, narrowed}
 use Rattle.binary.specs.Floats.{floatMeaning, plain}
 use Rattle.binary.proofs.Patterns.{one-pattern}
 use Rattle.binary.proofs.Widths.{half-single}
-use Rattle.binary.proofs.Laws.{narrowed-sound, narrowed-lost, narrowed-nan, narrowed-zero, narrowed-infinite, widened-lt, widened-keeps, widened-narrowed}
+use Rattle.binary.proofs.Laws.{narrowed-sound, narrowed-lost, narrowed-nan, narrowed-zero, narrowed-infinite}
+use Rattle.binary.proofs.Laws.{widened-lt, widened-keeps, widened-narrowed}
 use Rattle.binary.proofs.Values.{ofBits-means, half-value, narrowed-value}
-use Rattle.float.specs.Floats.{allowedFloat, floatOf, layoutAt}
+use Rattle.float.specs.Floats.{floatOf, layoutAt}
 use Rattle.float.specs.Bytes.{floatBytes, f32Bytes, f64Bytes}
 use Rattle.float.specs.Values.{floatValue, floatMeans}
 use Rattle.float.proofs.Counts.{Allowed, two, four, eight, allowed-is, is-allowed}

@@ -3,7 +3,7 @@
 -- alone.
 use Prim.Native.Nat.{ℕ, _+_}
 use mathlib.Core.Bool.{Bool}
-use mathlib.Core.List.{List, [], _∷_}
+use mathlib.Core.List.{List}
 use lib.Dec.{eqb}
 use lib.ListN.{length}
 use lib.Ieee.{binary32, binary64, ofBits}
@@ -11,6 +11,7 @@ use Rattle.types.specs.Choice.{pick}
 use Rattle.types.specs.Counters.{placeIn}
 use Rattle.types.specs.Kinds.{kindCode}
 use Rattle.types.specs.Ways.{upTo}
+use Rattle.types.specs.Forms.{allowedFloat, unsupported}
 use Rattle.types.specs.declared.Way.{Way}
 use Rattle.types.specs.declared.Kind.{Kind}
 use Rattle.types.specs.declared.Kind.the-variants as K
@@ -20,16 +21,8 @@ use Rattle.types.specs.declared.Refusal.the-variants as R
 use Rattle.types.specs.declared.FloatAnswer.{FloatAnswer}
 use Rattle.types.specs.declared.FloatAnswer.the-variants as FA
 use Rattle.little.specs.Le.{numberAt}
-use Rattle.little.specs.Counts.{listed}
 use Rattle.binary.specs.Formats.{Layout, half, single, double}
 use Rattle.binary.specs.Conversions.{widened}
-
--- "Float: counts 2, 4, 8."
-abbrev pub floatCounts : List ℕ
-floatCounts = 2 ∷ 4 ∷ 8 ∷ []
-
-abbrev pub allowedFloat : ℕ → Bool
-allowedFloat count = listed count floatCounts
 
 -- the format of a count: binary16, binary32 or binary64
 abbrev pub layoutAt : ℕ → Layout
@@ -60,7 +53,7 @@ unfoldable pub floatFrom : Way → List ℕ → ℕ → Kind → ℕ → FloatAn
 floatFrom way source at kind count =
     pick (floatKind kind)
     (pick (allowedFloat count) (floatBody way source at count)
-    (FA.Refused (record { 0 = at }) (R.UnsupportedByteCount K.Float count)))
+    (FA.Refused (record { 0 = at }) (unsupported K.Float count)))
     (FA.Refused (record { 0 = at }) (R.UnexpectedKind kind K.Float))
 
 -- a float read at any place

@@ -11,17 +11,19 @@ use denote.Enum.Declared.{tagOf}
 use lib.ListN.{length}
 use Rattle.types.specs.Counters.{placeIn}
 use Rattle.types.specs.Ways.{exact}
+use Rattle.types.specs.Forms.{allowedCount, unsupported}
 use Rattle.types.proofs.Kind.{the-type}
 use Rattle.types.specs.declared.Way.{Way}
 use Rattle.types.specs.declared.Kind.{Kind}
 use Rattle.types.specs.declared.Kind.the-variants as K
 use Rattle.types.specs.declared.Integer.{Integer}
+use Rattle.types.specs.declared.Refusal.{Refusal}
 use Rattle.types.specs.declared.Refusal.the-variants as R
 use Rattle.types.specs.declared.IntegerAnswer.the-variants as IA
 use Rattle.little.specs.Le.{numberAt, filledAt}
-use Rattle.little.proofs.Judged.{judged}
+use Rattle.little.proofs.Judged.{judged-laws}
 use Rattle.little.proofs.Zeros.{block-number, block-laws}
-use Rattle.integer.specs.Integers.{allowedCount, intOf, uintOf, integerKind, integerOf}
+use Rattle.integer.specs.Integers.{intOf, uintOf, integerKind, integerOf}
 use Rattle.integer.specs.Integers.{integerBody, integerFrom, integerRead}
 use Rattle.integer.proofs.Counts.{allowed-bounds}
 
@@ -79,10 +81,10 @@ module _ (way : Way) (s : List ℕ) (place at : ℕ) (kind : Kind) (count : ℕ)
 
   module _ (k : integerKind kind ≡ true) where
     -- of a count that is not allowed
-    pub count-refused : allowedCount count ≡ false →
-        IA.Refused (record { 0 = at }) (R.UnsupportedByteCount kind count) ≡ integerRead way s place kind count
+    pub count-refused : (why : Refusal) → why ≡ unsupported kind count → allowedCount count ≡ false →
+        IA.Refused (record { 0 = at }) why ≡ integerRead way s place kind count
     unfolding integerFrom
-    count-refused a = cc
+    count-refused why r a = cc
 
     -- that is allowed: the bytes are there; they are not, in exact reading, and in filled reading
     module _ (a : allowedCount count ≡ true) (within : at ≤ length s) where
@@ -105,4 +107,4 @@ module _ (way : Way) (s : List ℕ) (place at : ℕ) (kind : Kind) (count : ℕ)
         read-filled value y v = cc (lt-leb (at + count) (length s) (omega arith))
 
 pub ruleset read-ends =
-    (kind-refused, count-refused, read-whole, read-past-end, read-filled, judged, needs)
+    (kind-refused, count-refused, read-whole, read-past-end, read-filled, judged-laws, needs)

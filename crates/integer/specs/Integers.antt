@@ -10,6 +10,7 @@ use Rattle.types.specs.Counters.{placeIn}
 use Rattle.types.specs.Kinds.{kindCode}
 use Rattle.types.specs.Ways.{upTo}
 use Rattle.types.specs.Values.{words}
+use Rattle.types.specs.Forms.{allowedCount, unsupported}
 use Rattle.types.specs.declared.Way.{Way}
 use Rattle.types.specs.declared.Kind.{Kind}
 use Rattle.types.specs.declared.Kind.the-variants as K
@@ -20,11 +21,6 @@ use Rattle.types.specs.declared.IntegerAnswer.{IntegerAnswer}
 use Rattle.types.specs.declared.IntegerAnswer.the-variants as IA
 use Rattle.little.specs.Le.{numberAt}
 use Rattle.little.specs.Twos.{twos}
-use Rattle.little.specs.Counts.{counts, listed}
-
--- "counts 1, 2, 3, 4, 6, 8, 16"
-abbrev pub allowedCount : ℕ → Bool
-allowedCount count = listed count counts
 
 -- "Read results are I8, I16, I32 (3 and 4 bytes), I64 (6 and 8), I128": of that many bytes that hold v, an allowed
 -- count
@@ -65,7 +61,7 @@ unfoldable pub integerFrom : Way → List ℕ → ℕ → Kind → ℕ → Integ
 integerFrom way source at kind count =
     pick (integerKind kind)
     (pick (allowedCount count) (integerBody way source at kind count)
-    (IA.Refused (record { 0 = at }) (R.UnsupportedByteCount kind count)))
+    (IA.Refused (record { 0 = at }) (unsupported kind count)))
     (IA.Refused (record { 0 = at }) (R.UnexpectedKind kind K.Int))
 
 -- an integer read at any place

@@ -6,7 +6,8 @@ ghost use Prim.Native.Nat.{_+_, _≤_, _<_};
 ghost use lib.ListN.{length};
 ghost use Rattle.little.specs.Le.{numberAt};
 ghost use Rattle.types.specs.Values.{words};
-ghost use Rattle.integer.specs.Integers.{allowedCount, intOf, uintOf, integerKind, integerOf, integerRead};
+ghost use Rattle.types.specs.Forms.{allowedCount};
+ghost use Rattle.integer.specs.Integers.{intOf, uintOf, integerKind, integerOf, integerRead};
 use types::Integer;
 use types::IntegerAnswer;
 use types::Kind;
@@ -114,7 +115,7 @@ pub fn read_from(kind: Kind, count: u64, source: &[u8], place: Place, way: Way) 
         return IntegerAnswer::Refused(Place(at), Refusal::UnexpectedKind(kind, Kind::Int));
     }
     if !allowed(count) {
-        return IntegerAnswer::Refused(Place(at), Refusal::UnsupportedByteCount(kind, count));
+        return IntegerAnswer::Refused(Place(at), Refusal::unsupported(kind, count));
     }
     if count <= (source.len() - at) as u64 {
         return IntegerAnswer::Read(

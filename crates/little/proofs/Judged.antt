@@ -16,4 +16,4 @@ module _ (ok said : Bool) where
 pub bytes-there : (at count long : ℕ) → at ≤ long → count ≤ long - at → at + count ≤ long
 bytes-there at count long h l = omega arith
 
-pub ruleset judged = (passed, failed, bytes-there)
+pub ruleset judged-laws = (passed, failed, bytes-there)

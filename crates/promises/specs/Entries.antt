@@ -11,6 +11,7 @@ use lib.ListN.{length, drop}
 use Rattle.types.specs.Ways.{exact}
 use Rattle.types.specs.Counters.{placeIn}
 use Rattle.types.specs.Kinds.{kindCode, kindFrom, specialFrom}
+use Rattle.types.specs.Forms.{allowedCount, allowedFloat}
 use Rattle.types.specs.declared.Way.{Way}
 use Rattle.types.specs.declared.Kind.{Kind}
 use Rattle.types.specs.declared.Kind.the-variants as K
@@ -21,8 +22,8 @@ use Rattle.header.specs.Signature.{versionRead, everyBit, signature, bigEndian}
 use Rattle.reader.specs.Strings.{startOf, stringAnswer, stringScratch, scratchNeeded}
 use Rattle.reader.specs.Raw.{rawExactly, rawExactlyBuffer}
 use Rattle.little.specs.Le.{numberAt}
-use Rattle.integer.specs.Integers.{integerKind, allowedCount, integerOf, integerRead}
-use Rattle.float.specs.Floats.{floatKind, allowedFloat, floatOf, floatRead}
+use Rattle.integer.specs.Integers.{integerKind, integerOf, integerRead}
+use Rattle.float.specs.Floats.{floatKind, floatOf, floatRead}
 use Rattle.writers.specs.Bytes.{heldAnswer, heldContent}
 use Rattle.atom.specs.Charges.{budgetAfter}
 use Rattle.dictionary.specs.Runs.{tallyAll, mostBytes}

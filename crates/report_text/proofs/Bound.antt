@@ -14,6 +14,7 @@ use borrow.Author.Tests.{ltb-false}
 use Rattle.types.specs.Choice.{pick}
 use Rattle.types.specs.Counters.{placeIn}
 use Rattle.types.specs.Refusals.{refusalNumber}
+use Rattle.types.specs.Forms.{isString}
 use Rattle.types.specs.declared.Place.{Place}
 use Rattle.types.specs.declared.Way.the-variants as W
 use Rattle.types.specs.declared.Refusal.{Refusal}
@@ -30,7 +31,7 @@ use Rattle.lent.proofs.Stores.{answer-room, content-room}
 use Rattle.header.specs.Header.{headerKind, headerLength}
 use Rattle.header.specs.Signature.{versionRead, versionFrom, judged, everyBit, bigEndian, signature}
 use Rattle.dictionary.specs.Letters.{letters}
-use Rattle.dictionary.specs.Wholes.{isString, IsAtom, bodyBytes, lettersIn, Atoms, none, more, total}
+use Rattle.dictionary.specs.Wholes.{IsAtom, bodyBytes, lettersIn, Atoms, none, more, total}
 use Rattle.dictionary.specs.Runs.{tallyAll}
 use Rattle.dictionary.proofs.Letters.{letters-most}
 use Rattle.dictionary.specs.Prices.{priced, Made, Broken}

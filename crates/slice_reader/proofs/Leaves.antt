@@ -9,11 +9,11 @@ use lib.ListN.{length, drop}
 use lib.Seq.{drop-length}
 use borrow.Author.Tests.{le-leb}
 use Rattle.types.specs.Counters.{placeIn}
+use Rattle.types.specs.Forms.{listed, allowedCount}
 use Rattle.types.proofs.Places.{place-same}
 use Rattle.types.specs.declared.Kind.{Kind}
 use Rattle.types.specs.declared.Kind.the-variants as K
-use Rattle.little.specs.Counts.{listed}
-use Rattle.integer.specs.Integers.{integerKind, allowedCount, integerFrom, integerBody}
+use Rattle.integer.specs.Integers.{integerKind, integerFrom, integerBody}
 use Rattle.reader.proofs.Strings.{lent-read, lent-eof}
 use Rattle.slice_reader.specs.Left.{leftBytes}
 use Rattle.slice_reader.specs.Given.{integerGiven, integerPlace, stringGiven, stringPlace}
