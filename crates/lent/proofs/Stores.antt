@@ -25,7 +25,8 @@ pub answer-room : (bytes old : List ℕ) → length bytes ≤ length old → wri
 answer-room bytes old h = simp (le-ltb (length old) (length bytes) h)
 
 pub content-room : (bytes old : List ℕ) → length bytes ≤ length old →
-    writtenContent bytes old ≡ copiedOver bytes old
+    writtenContent bytes old ≡ bytes ++ drop (length bytes) old
+unfolding copiedOver
 content-room bytes old h = simp (le-ltb (length old) (length bytes) h)
 
 -- one store more of a buffer whose first i elements are those of s, and the rest as in d
