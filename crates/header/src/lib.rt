@@ -1,12 +1,13 @@
 // The atom header and the file's signature, read under each way and written into a lent buffer. Document 01, "Bytes of an
 // atom"; format.rs, `write_atom_header` to `read_header`.
 ghost use mathlib.Core.Path.{_≡_};
-ghost use mathlib.Core.List.{_++_};
+ghost use mathlib.Core.List.{_∷_};
 ghost use Prim.Native.Nat.{_≤_, _<_, _+_, _*_, _^_};
-ghost use lib.ListN.{length, drop};
+ghost use lib.Dec.{ltb};
+ghost use lib.ListN.{length, drop, getD};
 ghost use Rattle.types.specs.declared.Kind.{Kind};
 ghost use Rattle.types.specs.Kinds.{kindFrom, kindKnown};
-ghost use Rattle.lent.specs.Lent.{writtenAnswer, writtenContent};
+ghost use Rattle.lent.specs.Lent.{writtenAnswer, writtenContent, copiedOver};
 ghost use Rattle.header.specs.Header.{headerRead, headerBytes, laterBytes, laterFrom};
 ghost use Rattle.header.specs.Signature.{versionRead, judged, signatureBytes};
 use types::HeaderAnswer;
@@ -42,10 +43,23 @@ pub fn header_length(arg: u64) -> usize
     later_length(arg / 16) + 1
 }
 
-// Writes the later part of an argument, 7 bits to a byte, lowest first.
-fn write_later(out: &mut [u8], rest: u64)
+// Whether a buffer of that length has room for a header of two bytes or more. Ten bytes are room for any, so that the
+// bytes of the later part are seldom counted.
+fn has_room(room: usize, rest: u64) -> bool
+    requires { ⌜ rest < 128 ^ 9 ⌝ }
+    ensures { λ r. ⌜ r ≡ ltb (length (laterBytes 9 rest)) room ⌝ }
+{
+    if 10 <= room {
+        return true;
+    }
+    later_length(rest) < room
+}
+
+// Writes the later part of an argument, 7 bits to a byte, lowest first, and answers how many bytes it took.
+fn write_later(out: &mut [u8], rest: u64) -> usize
     requires { ⌜ (rest < 128 ^ 9) × (length (laterBytes 9 rest) ≤ length (now out)) ⌝ }
-    ensures { λ r. ⌜ now (out .exit) ≡ laterBytes 9 rest ++ drop (length (laterBytes 9 rest)) (now (out .entry)) ⌝ }
+    ensures { λ r. ⌜ (r ≡ length (laterBytes 9 rest)) × (r ≤ 9) ⌝ }
+    ensures { λ r. ⌜ now (out .exit) ≡ copiedOver (laterBytes 9 rest) (now (out .entry)) ⌝ }
 {
     let mut i: usize = 0;
     let mut arg = rest;
@@ -55,6 +69,17 @@ fn write_later(out: &mut [u8], rest: u64)
         i += 1;
     }
     out[i] = arg as u8;
+    i + 1
+}
+
+// Writes a header of two bytes or more that has its room, and answers how many bytes it took.
+fn write_long(out: &mut [u8], first: u8, rest: u64) -> usize
+    requires { ⌜ (rest < 128 ^ 9) × (length (laterBytes 9 rest) < length (now out)) ⌝ }
+    ensures { λ r. ⌜ r ≡ length (laterBytes 9 rest) + 1 ⌝ }
+    ensures { λ r. ⌜ now (out .exit) ≡ copiedOver (first ∷ laterBytes 9 rest) (now (out .entry)) ⌝ }
+{
+    out[0] = first;
+    write_later(&mut out[1..], rest) + 1
 }
 
 // Writes an atom header: one byte where the argument is below 16, and up to ten.
@@ -67,13 +92,11 @@ pub fn write_atom_header(out: &mut [u8], kind: Kind, arg: u64) -> Written
         return lent::put_one(out, first_byte + arg as u8);
     }
     let rest = arg / 16;
-    let length = later_length(rest) + 1;
-    if out.len() < length {
-        return Written::Refused(Refusal::no_room(length));
+    if has_room(out.len(), rest) {
+        let first = first_byte + 16 + (arg % 16) as u8;
+        return Written::Count(write_long(out, first, rest));
     }
-    out[0] = first_byte + 16 + (arg % 16) as u8;
-    write_later(&mut out[1..], rest);
-    Written::Count(length)
+    Written::Refused(Refusal::no_room(later_length(rest) + 1))
 }
 
 // The kind of a code of three bits.
