@@ -61,6 +61,6 @@ integer-leaves s kind count e f h =
     simp (e, f, starts s, le-leb (0 + count) (length s) m) (ap (λ (k : ℕ). drop k s) (place-same (length s) (0 + count) m ∙ z))
 
 -- one byte, read as an integer of one byte
-pub byte-leaves : (b : ℕ) → leftBytes (b ∷ []) (integerPlace (integerGiven (b ∷ []) K.UInt 1)) ≡ []
+pub byte-leaves : (b : ℕ) (s : List ℕ) → leftBytes (b ∷ s) (integerPlace (integerGiven (b ∷ s) K.UInt 1)) ≡ s
 unfolding listed
-byte-leaves b = integer-leaves (b ∷ []) K.UInt 1 refl refl (omega arith)
+byte-leaves b s = integer-leaves (b ∷ s) K.UInt 1 refl refl (omega arith)
