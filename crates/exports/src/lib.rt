@@ -40,14 +40,15 @@ use types::SpecialAnswer;
 use types::Way;
 use types::Wide;
 
-// Reads an atom under a way: the one place that calls the reader.
+// Reads an atom under a way: the one place that calls the reader. The words stand first, so that they go in registers: a
+// caller lays their address and their number on the stack one by one, and to pass both on as one would have to wait for that.
 fn read_by(
+    words: &mut [u64],
     source: &[u8],
+    scratch: &mut [u8],
     place: usize,
     budget: u64,
-    scratch: &mut [u8],
     way: Way,
-    words: &mut [u64],
 ) -> u64
     ensures { λ r. ⌜ r ≡ numberOf (saidAtom (atomRead way (now (source .entry)) place (record { 0 = budget }) (now (scratch .entry)))) (now (words .entry)) ⌝ }
     ensures { λ r. ⌜ now (words .exit) ≡ wordsOf (saidAtom (atomRead way (now (source .entry)) place (record { 0 = budget }) (now (scratch .entry)))) (now (words .entry)) ⌝ }
@@ -67,7 +68,7 @@ pub extern "C" fn pot_read_atom(source: &[u8], place: usize, budget: u64, words:
     ensures { λ r. ⌜ now (words .exit) ≡ wordsOf (saidAtom (atomRead unnamedWay (now (source .entry)) place (record { 0 = budget }) [])) (now (words .entry)) ⌝ }
 {
     let mut scratch = [0u8; 0];
-    read_by(source, place, budget, &mut scratch, Way::unnamed(), words)
+    read_by(words, source, &mut scratch, place, budget, Way::unnamed())
 }
 
 // Reads an atom exactly; a string is lent.
@@ -82,7 +83,7 @@ pub extern "C" fn pot_read_atom_exact(
     ensures { λ r. ⌜ now (words .exit) ≡ wordsOf (saidAtom (atomRead ExactLent (now (source .entry)) place (record { 0 = budget }) [])) (now (words .entry)) ⌝ }
 {
     let mut scratch = [0u8; 0];
-    read_by(source, place, budget, &mut scratch, Way::ExactLent, words)
+    read_by(words, source, &mut scratch, place, budget, Way::ExactLent)
 }
 
 // Reads an atom exactly; a string is copied into scratch.
@@ -98,7 +99,7 @@ pub extern "C" fn pot_read_atom_copied(
     ensures { λ r. ⌜ now (words .exit) ≡ wordsOf (saidAtom (atomRead ExactCopied (now (source .entry)) place (record { 0 = budget }) (now (scratch .entry)))) (now (words .entry)) ⌝ }
     ensures { λ r. ⌜ now (scratch .exit) ≡ unlessShort (now (words .entry)) (now (scratch .entry)) (atomScratch ExactCopied (now (source .entry)) place (record { 0 = budget }) (now (scratch .entry))) ⌝ }
 {
-    read_by(source, place, budget, scratch, Way::ExactCopied, words)
+    read_by(words, source, scratch, place, budget, Way::ExactCopied)
 }
 
 // Reads an atom exactly and builds no value.
