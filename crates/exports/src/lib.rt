@@ -40,8 +40,8 @@ use types::SpecialAnswer;
 use types::Way;
 use types::Wide;
 
-// Reads an atom under a way: the one place that calls the reader. The words stand first, so that they go in registers: a
-// caller lays their address and their number on the stack one by one, and to pass both on as one would have to wait for that.
+// Reads an atom under a way: the one place that calls the reader. The words stand first, so that they go in registers:
+// where a caller laid their address and number on the stack one by one, to pass both on in one move would have to wait.
 fn read_by(
     words: &mut [u64],
     source: &[u8],
