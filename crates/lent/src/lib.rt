@@ -33,7 +33,7 @@ fn copy_each(out: &mut [u8], source: &[u8])
 }
 
 // Copies a source of at most 4,096 bytes that has its room, by way of a block of its own: nothing else lies over that,
-// so the two loops are compiled to one call of the system's copy, or to plain moves where the length is known beforehand.
+// so the two loops are compiled to one call of the system's copy, or to plain moves where the length is known before.
 fn copy_piece(out: &mut [u8], source: &[u8])
     requires { ⌜ length (now source) ≤ 4096 ⌝ }
     requires { ⌜ length (now source) ≤ length (now out) ⌝ }
