@@ -52,14 +52,15 @@ fn granted(words: usize, room: usize) -> usize
     room
 }
 
-// Reads an atom under a way: the one place that calls the reader.
+// Reads an atom under a way: the one place that calls the reader. The words stand first, so that they go in registers:
+// where a caller laid their address and number on the stack one by one, to pass both on in one move would have to wait.
 fn read_by(
+    words: &mut [u64],
     source: &[u8],
+    scratch: &mut [u8],
     place: usize,
     budget: u64,
-    scratch: &mut [u8],
     way: Way,
-    words: &mut [u64],
 ) -> u64
     ensures { λ r. ⌜ r ≡ numberOf (saidAtom (atomRead way (now (source .entry)) place (record { 0 = budget }) (now (scratch .entry)))) (now (words .entry)) ⌝ }
     ensures { λ r. ⌜ now (words .exit) ≡ wordsOf (saidAtom (atomRead way (now (source .entry)) place (record { 0 = budget }) (now (scratch .entry)))) (now (words .entry)) ⌝ }
@@ -76,7 +77,7 @@ pub extern "C" fn pot_read_atom(source: &[u8], place: usize, budget: u64, words:
     ensures { λ r. ⌜ now (words .exit) ≡ wordsOf (saidAtom (atomRead unnamedWay (now (source .entry)) place (record { 0 = budget }) [])) (now (words .entry)) ⌝ }
 {
     let mut scratch = [0u8; 0];
-    read_by(source, place, budget, &mut scratch, Way::unnamed(), words)
+    read_by(words, source, &mut scratch, place, budget, Way::unnamed())
 }
 
 // Reads an atom exactly; a string is lent.
@@ -91,7 +92,7 @@ pub extern "C" fn pot_read_atom_exact(
     ensures { λ r. ⌜ now (words .exit) ≡ wordsOf (saidAtom (atomRead ExactLent (now (source .entry)) place (record { 0 = budget }) [])) (now (words .entry)) ⌝ }
 {
     let mut scratch = [0u8; 0];
-    read_by(source, place, budget, &mut scratch, Way::ExactLent, words)
+    read_by(words, source, &mut scratch, place, budget, Way::ExactLent)
 }
 
 // Reads an atom exactly; a string is copied into scratch.
@@ -108,14 +109,7 @@ pub extern "C" fn pot_read_atom_copied(
     ensures { λ r. ⌜ now (scratch .exit) ≡ unlessShort (now (words .entry)) (now (scratch .entry)) (atomScratch ExactCopied (now (source .entry)) place (record { 0 = budget }) (now (scratch .entry))) ⌝ }
 {
     let room = granted(words.len(), scratch.len());
-    read_by(
-        source,
-        place,
-        budget,
-        &mut scratch[0..room],
-        Way::ExactCopied,
-        words,
-    )
+    read_by(words, source, &mut scratch[0..room], place, budget, Way::ExactCopied)
 }
 
 // Reads an atom exactly and builds no value.
