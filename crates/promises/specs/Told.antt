@@ -139,6 +139,7 @@ toldRan (RN.Stopped p b atoms r start) = refused (pos (p .0) ∷ pos (b .0) ∷ 
 
 abbrev pub toldTally : TallyAnswer → Told
 toldTally (TA.Stopped start r) = refused (pos (start .0) ∷ []) r
+toldTally (TA.Refused r) = refused [] r
 toldTally (TA.Done t) = taken (pos (t .atoms) ∷ pos (t .body .0) ∷ pos (t .charge) ∷ pos (t .letters) ∷ [])
 
 -- an integer by its variant, signed or not and so many bits wide, and its value
