@@ -1,5 +1,5 @@
--- Filled reading is reading the source with zeros after it: they change no byte and no number. A block of the bytes at a
--- place, filled up with zeros, has the numbers that stand there; then the loop that fills such a block.
+-- Filled reading is reading the source with zeros after it: they change no byte and no number. A block of the bytes at
+-- a place, filled up with zeros, has the numbers that stand there; then the loop that fills such a block.
 use mathlib.Core.Path.{_≡_, refl, _∙_, sym, ap}
 use mathlib.Core.List.{List, [], _∷_, _++_, append-nil}
 use Prim.Native.Nat.{ℕ, zero, suc, _+_, _≤_, _<_}
