@@ -76,10 +76,7 @@ pub extern "C" fn pot_read_atom(source: &[u8], place: usize, budget: u64, words:
     ensures { λ r. ⌜ r ≡ numberOf (saidAtom (atomRead unnamedWay (now (source .entry)) place (record { 0 = budget }) [])) (now (words .entry)) ⌝ }
     ensures { λ r. ⌜ now (words .exit) ≡ wordsOf (saidAtom (atomRead unnamedWay (now (source .entry)) place (record { 0 = budget }) [])) (now (words .entry)) ⌝ }
 {
-    words::say_atom(
-        words,
-        atom::read_atom(source, Place(place), Budget(budget)),
-    )
+    words::say_atom(words, atom::read_atom(source, Place(place), Budget(budget)))
 }
 
 // Reads an atom exactly; a string is lent.
@@ -111,7 +108,14 @@ pub extern "C" fn pot_read_atom_copied(
     ensures { λ r. ⌜ now (scratch .exit) ≡ unlessShort (now (words .entry)) (now (scratch .entry)) (atomScratch ExactCopied (now (source .entry)) place (record { 0 = budget }) (now (scratch .entry))) ⌝ }
 {
     let room = granted(words.len(), scratch.len());
-    read_by(words, source, &mut scratch[0..room], place, budget, Way::ExactCopied)
+    read_by(
+        words,
+        source,
+        &mut scratch[0..room],
+        place,
+        budget,
+        Way::ExactCopied,
+    )
 }
 
 // Reads an atom exactly and builds no value.
