@@ -1,9 +1,9 @@
 -- THE THREE DEMANDS, of the definitions that the contracts cite. What each rests on stands in the modules that it names.
-use mathlib.Core.Path.{_≡_, refl}
+use mathlib.Core.Path.{_≡_, refl, ap}
 use mathlib.Core.Bool.{Bool, true, false, _&&_}
 use mathlib.Core.Logic.{_⊎_, inl, inr, ⊎-elim}
-use mathlib.Core.List.{List, []}
-use Prim.Native.Nat.{ℕ, suc, _-_, _*_, _%_, _^_, _≤_, _<_}
+use mathlib.Core.List.{List, [], _∷_}
+use Prim.Native.Nat.{ℕ, _+_, _-_, _*_, _%_, _^_, _≤_, _<_}
 use lib.Dec.{leb, T}
 use lib.IntN.{ℤ, pos}
 use lib.ListN.{length}
@@ -14,7 +14,6 @@ use mir.Val.{bytes, hbits}
 use borrow.Author.Tests.{le-leb, lt-leb}
 use Rattle.types.specs.Choice.{pick}
 use Rattle.types.specs.declared.Way.{Way}
-use Rattle.types.specs.declared.Way.the-variants as W
 use Rattle.types.specs.declared.Place.{Place}
 use Rattle.types.specs.declared.Budget.{Budget}
 use Rattle.types.specs.declared.Kind.{Kind}
@@ -23,14 +22,11 @@ use Rattle.types.specs.declared.Refusal.{Refusal}
 use Rattle.types.specs.declared.Refusal.the-variants as R
 use Rattle.types.specs.declared.HeaderAnswer.{HeaderAnswer}
 use Rattle.types.specs.declared.HeaderAnswer.the-variants as H
-use Rattle.types.specs.declared.AtomAnswer.the-variants as A
 use Rattle.types.specs.declared.Float.the-variants as F
 use Rattle.types.specs.declared.AsInteger.the-variants as AsInteger
 use Rattle.types.specs.declared.AsF32.the-variants as AsF32
 use Rattle.types.specs.declared.AsF64.the-variants as AsF64
-use Rattle.types.specs.declared.Ran.the-variants as RN
-use Rattle.types.specs.declared.TallyAnswer.the-variants as TA
-use Rattle.header.specs.Header.{headerRead}
+use Rattle.header.specs.Header.{headerRead, headerLength}
 use Rattle.binary.specs.Formats.{Layout, half, single, double, finite, infinite, nan, meaning, SameValue}
 use Rattle.binary.specs.Formats as Formats
 use Rattle.binary.specs.Conversions.{widened, narrowed, exact}
@@ -48,16 +44,17 @@ use Rattle.cast.proofs.Made.{cast-from}
 use Rattle.float_cast.specs.Integral.{one, clamped, integral}
 use Rattle.atom.specs.Atoms.{atomRead, atomScratch}
 use Rattle.dictionary.specs.Runs.{runAll, tallyAll, mostBytes}
-use Rattle.dictionary.specs.Wholes.{Atoms, total, price, bodyBytes}
-use Rattle.dictionary.specs.Prices.{priced, Short, Made, Broken}
+use Rattle.dictionary.specs.Wholes.{Atoms, total, price, bodyBytes, lettersIn}
+use Rattle.dictionary.specs.Prices.{Passing, asked, Barred, Made, Broken}
 use Rattle.dictionary.proofs.Price as Price
-use Rattle.promises.specs.Told.{Told, toldAtom}
+use Rattle.promises.specs.Told.{Told, told, refused, toldAtom, toldRan, toldTally}
 use Rattle.promises.specs.Rows.{Row, Good, shown}
 use Rattle.promises.specs.Entries.{KindRows, SpecialRows, HeaderRows, SignatureRows, BudgetRows, IntegerRows, FloatRows, StringRows, RawRows, WriterRows, HeldRows, LengthRows}
+use Rattle.promises.specs.Runs.{RunRow}
 use Rattle.promises.specs.Values.{Value, written, roomFor, ReadBack}
 use Rattle.promises.proofs.Demand1 as Demand1
 use Rattle.promises.proofs.Entries as Entries
-use Rattle.promises.proofs.Stops as Stops
+use Rattle.promises.proofs.Runs as Runs
 use Rattle.promises.proofs.Demand2 as Demand2
 use Rattle.promises.proofs.Integrals as Integrals
 use Rattle.promises.proofs.FloatCasts as FloatCasts
@@ -116,9 +113,15 @@ demand1-held = Entries.helds
 pub demand1-length : (s : List ℕ) → LengthRows s
 demand1-length = Entries.lengths
 
--- A run that stops does so by the refusal of the atom where it says that this starts, with that refusal's place and budget.
-pub demand1-run : (s : List ℕ) (budget : Budget) (place : Place) (rest : Budget) (atoms : ℕ) (why : Refusal) (start : Place) → runAll s budget ≡ RN.Stopped place rest atoms why start → (left : Budget) × (atomRead W.ExactLent s (start .0) left [] ≡ A.Refused place rest why)
-demand1-run s budget place rest atoms why start e = Stops.stops s place rest atoms why start (suc (length s)) 0 budget 0 e
+-- THE RUN, of every file and every budget, has a row of its own,
+pub demand1-run : (s : List ℕ) (budget : Budget) → RunRow s (budget .0) (toldRan (runAll s budget))
+demand1-run s budget = Runs.every-run s (budget .0)
+
+-- and the row that fits is its answer.
+pub demand1-run-one : (s : List ℕ) (budget : Budget) {answer : Told} →
+    RunRow s (budget .0) answer →
+    answer ≡ toldRan (runAll s budget)
+demand1-run-one s budget = Runs.one-run s (budget .0)
 
 -- 2: WHAT WAS WRITTEN READS BACK as the value written: every value, every way, anything before and after it, any budget of at
 -- least the price, any scratch with room.
@@ -215,12 +218,22 @@ demand2-narrowed x f = record { equal = FloatCasts.equal-taken x f; none-equal =
 
 -- 3: THE PRICE OF A FILE IS EXACT. Of whole, known atoms whose charges sum to C:
 pub record Priced (s : List ℕ) (atoms : List (List ℕ)) : Type 0 where
-  -- the tally reports C, the atoms, their body bytes and letters
-  pub reported : length s ≤ mostBytes → tallyAll s ≡ TA.Done (priced atoms)
+  -- the tally reports the atoms, their body bytes, C and their letters
+  pub reported : length s ≤ mostBytes →
+      toldTally (tallyAll s)
+      ≡ told 0
+      (pos (length atoms) ∷ pos (total bodyBytes atoms) ∷ pos (total price atoms) ∷ pos (total lettersIn atoms) ∷ [])
   -- any budget of at least C reads all and leaves the budget less C
-  pub afforded : (budget : ℕ) → total price atoms ≤ budget → runAll s (record { 0 = budget }) ≡ RN.Done (record { 0 = length s }) (record { 0 = budget - total price atoms }) (length atoms)
-  -- a smaller one is refused at the first atom whose running sum passes it
-  pub refused : (budget : ℕ) → budget < total price atoms → Short (runAll s (record { 0 = budget })) budget 0 0 atoms
+  pub afforded : (budget : ℕ) → total price atoms ≤ budget →
+      toldRan (runAll s (record { 0 = budget }))
+      ≡ told 0 (pos (length s) ∷ pos (budget - total price atoms) ∷ pos (length atoms) ∷ [])
+  -- a smaller one is refused with 5 at the first atom whose running sum passes it: past its header, with the budget less the
+  -- charges of the atoms before it, their number, and where it starts
+  pub refused-at : (budget : ℕ) → budget < total price atoms →
+      (p : Passing budget atoms) × (toldRan (runAll s (record { 0 = budget }))
+      ≡ told 5
+      (pos (total length (p .before) + headerLength (p .atom)) ∷ pos (budget - total price (p .before))
+      ∷ pos (length (p .before)) ∷ pos (total length (p .before)) ∷ []))
   -- atoms never outnumber bytes
   pub atoms-bound : length atoms ≤ length s
   -- 3C is at most 4 times the body bytes
@@ -228,13 +241,31 @@ pub record Priced (s : List ℕ) (atoms : List (List ℕ)) : Type 0 where
 
 pub demand3 : (s : List ℕ) (atoms : List (List ℕ)) → Atoms s atoms → Priced s atoms
 demand3 s atoms w = record {
-  reported = λ short. Price.tally-priced s atoms short w;
-  afforded = λ budget enough. Price.run-priced s atoms budget w enough;
-  refused = λ budget few. Price.run-short s atoms budget w few;
+  reported = λ short. ap toldTally (Price.tally-priced s atoms short w);
+  afforded = λ budget enough. ap toldRan (Price.run-priced s atoms budget w enough);
+  refused-at = λ budget few. let r = Price.run-short s atoms budget w few in (r .0, ap toldRan (r .1));
   atoms-bound = Price.atoms-most w;
   charge-bound = Price.price-body atoms;
 }
 
--- and every other file is refused at the first atom that is not whole or not known, with that atom's own refusal
-pub demand3-otherwise : (s : List ℕ) → length s ≤ mostBytes → Made s ⊎ ((broken : Broken s) × (tallyAll s ≡ TA.Stopped (record { 0 = length (broken .front-bytes) }) (broken .why)))
-demand3-otherwise s short = ⊎-elim inl (λ broken. inr (broken, Price.tally-broken s broken short)) (Price.judged s)
+-- Every other file is refused at the first atom that is not whole or not known, with that atom's own refusal and where it
+-- starts: by the tally, and by a run whose budget suffices for what is asked up to there.
+pub record Stopped (s : List ℕ) (broken : Broken s) : Type 0 where
+  pub reported : length s ≤ mostBytes →
+      toldTally (tallyAll s) ≡ refused (pos (length (broken .front-bytes)) ∷ []) (broken .why)
+  pub afforded : (budget : ℕ) → total price (broken .atoms) + asked (broken .rest) ≤ budget →
+      (past : ℕ) × (charge : ℕ)
+      × Barred (broken .rest) (budget - total price (broken .atoms)) (broken .why) past charge
+      × (toldRan (runAll s (record { 0 = budget }))
+      ≡ refused
+      (pos (length (broken .front-bytes) + past) ∷ pos (budget - total price (broken .atoms) - charge)
+      ∷ pos (length (broken .atoms)) ∷ pos (length (broken .front-bytes)) ∷ []) (broken .why))
+
+pub demand3-otherwise : (s : List ℕ) → Made s ⊎ ((broken : Broken s) × Stopped s broken)
+demand3-otherwise s = ⊎-elim inl (λ broken. inr (broken, stops broken)) (Price.judged s)
+  where
+    stops : (broken : Broken s) → Stopped s broken
+    stops broken = record {
+      reported = λ short. ap toldTally (Price.tally-broken s broken short);
+      afforded = λ budget enough. Runs.broken-run s broken budget enough;
+    }

@@ -23,7 +23,7 @@ pub mod Exactly
 pub mod Filled
 pub mod Demand1
 pub mod Entries
-pub mod Stops
+pub mod Runs
 pub mod Integrals
 pub mod FloatCasts
 pub mod Demand2

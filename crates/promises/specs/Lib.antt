@@ -2,3 +2,4 @@ pub mod Told
 pub mod Rows
 pub mod Entries
 pub mod Values
+pub mod Runs
