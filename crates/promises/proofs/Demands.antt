@@ -48,7 +48,8 @@ use Rattle.dictionary.specs.Wholes.{Atoms, total, price, bodyBytes, lettersIn}
 use Rattle.dictionary.specs.Prices.{Passing, asked, Barred, Made, Broken}
 use Rattle.dictionary.proofs.Price as Price
 use Rattle.promises.specs.Told.{Told, told, refused, toldAtom, toldRan, toldTally}
-use Rattle.promises.specs.Rows.{Row, Good, shown}
+use Rattle.promises.specs.Held.{copied}
+use Rattle.promises.specs.Rows.{Row, Good, roomOf, taking}
 use Rattle.promises.specs.Entries.{KindRows, SpecialRows, HeaderRows, SignatureRows, BudgetRows, IntegerRows, FloatRows, StringRows, RawRows, WriterRows, HeldRows, LengthRows}
 use Rattle.promises.specs.Runs.{RunRow}
 use Rattle.promises.specs.Values.{Value, written, roomFor, ReadBack}
@@ -59,22 +60,37 @@ use Rattle.promises.proofs.Demand2 as Demand2
 use Rattle.promises.proofs.Integrals as Integrals
 use Rattle.promises.proofs.FloatCasts as FloatCasts
 
--- 1: AN ATOM IS READ, OR REFUSED BY A ROW of document 01's table, by its number, with the place, the budget and the scratch that
--- the row says.
-pub demand1 : (way : Way) (s : List ℕ) (place : ℕ) (budget : Budget) (scratch : List ℕ) → Row way s budget scratch (headerRead way s place) (toldAtom (atomRead way s place budget scratch)) (atomScratch way s place budget scratch)
+-- 1: AN ATOM IS READ, OR REFUSED BY A ROW of document 01's table, by its number, with the place, the budget and the scratch
+-- that the row says; if it is read, with what its bytes hold.
+pub demand1 : (way : Way) (s : List ℕ) (place : ℕ) (budget : Budget) (scratch : List ℕ) →
+    Row way s budget scratch (headerRead way s place)
+    (toldAtom (atomRead way s place budget scratch)) (atomScratch way s place budget scratch)
 demand1 = Demand1.by-the-table
 
--- At most one row fits: the table leaves one answer, but for what the atom holds, and one scratch.
-pub demand1-one : {way : Way} {s : List ℕ} {budget : Budget} {scratch : List ℕ} {header : HeaderAnswer} {a b : Told} {t u : List ℕ} → Row way s budget scratch header a t → Row way s budget scratch header b u → (shown a ≡ shown b) × (t ≡ u)
+-- At most one row fits: the table leaves one answer and one scratch.
+pub demand1-one : {way : Way} {s : List ℕ} {budget : Budget} {scratch : List ℕ} {header : HeaderAnswer} {a b : Told}
+    {t u : List ℕ} →
+    Row way s budget scratch header a t →
+    Row way s budget scratch header b u →
+    (a ≡ b) × (t ≡ u)
 demand1-one = Demand1.one-row
 
 -- Bad input is refused: what is read has a header, and is good past it;
-pub demand1-bad : (way : Way) (s : List ℕ) (place : ℕ) (budget : Budget) (scratch : List ℕ) → toldAtom (atomRead way s place budget scratch) .number ≡ 0 → (next : Place) × (kind : Kind) × (arg : ℕ) × (headerRead way s place ≡ H.Read next kind arg) × Good way s budget scratch next kind arg
+pub demand1-bad : (way : Way) (s : List ℕ) (place : ℕ) (budget : Budget) (scratch : List ℕ) →
+    toldAtom (atomRead way s place budget scratch) .number ≡ 0 →
+    (next : Place) × (kind : Kind) × (arg : ℕ)
+    × (headerRead way s place ≡ H.Read next kind arg) × Good way s budget scratch next kind arg
 demand1-bad way s place budget scratch e = Demand1.good-row (demand1 way s place budget scratch) e
 
 -- and nothing else is: what is good past its header is read.
-pub demand1-good : (way : Way) (s : List ℕ) (place : ℕ) (budget : Budget) (scratch : List ℕ) (next : Place) (kind : Kind) (arg : ℕ) → headerRead way s place ≡ H.Read next kind arg → Good way s budget scratch next kind arg → toldAtom (atomRead way s place budget scratch) .number ≡ 0
-demand1-good way s place budget scratch next kind arg e g = Demand1.good-read e (demand1 way s place budget scratch) g
+pub demand1-good : (way : Way) (s : List ℕ) (place : ℕ) (budget : Budget) (scratch : List ℕ) (next : Place)
+    (kind : Kind) (arg : ℕ) →
+    headerRead way s place ≡ H.Read next kind arg →
+    Good way s budget scratch next kind arg →
+    (toldAtom (atomRead way s place budget scratch) ≡ taking way s next budget kind arg)
+    × (atomScratch way s place budget scratch ≡ copied s (next .0) (roomOf way kind arg) scratch)
+demand1-good way s place budget scratch next kind arg e g =
+    Demand1.good-read e (demand1 way s place budget scratch) g
 
 -- THE OTHER ENTRIES, each by its rows.
 pub demand1-kind : (code : ℕ) → KindRows code

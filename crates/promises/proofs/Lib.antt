@@ -21,6 +21,7 @@ pub mod Exports
 pub mod Laid
 pub mod Exactly
 pub mod Filled
+pub mod Held
 pub mod Demand1
 pub mod Entries
 pub mod Runs

@@ -1,4 +1,5 @@
 pub mod Told
+pub mod Held
 pub mod Rows
 pub mod Entries
 pub mod Values

@@ -10,6 +10,7 @@ use mir.Val.{bits}
 use Rattle.types.specs.Choice.{pick}
 use Rattle.types.specs.Kinds.{kindCode, specialCode}
 use Rattle.types.specs.Refusals.{refusalNumber, refusalData}
+use Rattle.types.specs.declared.Mark.{Mark}
 use Rattle.types.specs.declared.Integer.{Integer}
 use Rattle.types.specs.declared.Float.{Float}
 use Rattle.types.specs.declared.Float.the-variants as F
@@ -119,8 +120,11 @@ toldVersion (VA.Read p v) = taken (pos (p .0) ∷ pos v ∷ [])
 toldVersion (VA.Refused p r) = refused (pos (p .0) ∷ []) r
 
 -- a delivery mark as its start, its length, and 1 if lent, 0 if copied
+abbrev pub markTold : Mark → List ℤ
+markTold m = pos (m .start) ∷ pos (m .len) ∷ pos (pick (m .lent) 1 0) ∷ []
+
 abbrev pub toldBytes : BytesAnswer → Told
-toldBytes (BA.Read p m) = taken (pos (p .0) ∷ pos (m .start) ∷ pos (m .len) ∷ pos (pick (m .lent) 1 0) ∷ [])
+toldBytes (BA.Read p m) = taken (pos (p .0) ∷ markTold m)
 toldBytes (BA.Refused p r) = refused (pos (p .0) ∷ []) r
 
 abbrev pub toldRaw : RawAnswer → Told
@@ -169,7 +173,7 @@ nucleusTold N.None = pos 0 ∷ []
 nucleusTold (N.Boolean b) = pos 1 ∷ pos (pick b 1 0) ∷ []
 nucleusTold (N.Integer x) = pos 2 ∷ integerTold x
 nucleusTold (N.Float x stored) = pos 3 ∷ pos stored ∷ floatTold x
-nucleusTold (N.Bytes m) = pos 4 ∷ pos (m .start) ∷ pos (m .len) ∷ pos (pick (m .lent) 1 0) ∷ []
+nucleusTold (N.Bytes m) = pos 4 ∷ markTold m
 nucleusTold N.Unit = pos 5 ∷ []
 nucleusTold N.Named = pos 6 ∷ []
 nucleusTold N.DynamicMap = pos 7 ∷ []
