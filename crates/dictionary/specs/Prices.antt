@@ -34,8 +34,8 @@ pub record Passing (budget : ℕ) (atoms : List (List ℕ)) : Type 0 where
 abbrev pub asked : List ℕ → ℕ
 asked bytes = pick (ltb (length bytes) (headerLength bytes)) 0 (price bytes)
 
--- AN ATOM AT THE FRONT OF BYTES THAT IS REFUSED, with so much of the budget left: why, how many bytes past its start the
--- place is then, and what it was charged. "Order within an atom: header, then special known, or budget, then count
+-- AN ATOM AT THE FRONT OF BYTES THAT IS REFUSED, with so much of the budget left: why, how many bytes past its start
+-- the place is then, and what it was charged. "Order within an atom: header, then special known, or budget, then count
 -- allowed, then end of input"; a special costs nothing.
 pub data Barred (bytes : List ℕ) (left : ℕ) : Refusal → ℕ → ℕ → Type 0 where
   -- "4 Eof: end of slice", where no body was being read

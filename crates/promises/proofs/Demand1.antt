@@ -1,7 +1,7 @@
--- DEMAND 1, of the atom: every input has a row of document 01's table, with its number and data, its place and its budget,
--- and the scratch after it; at most one row fits; and an atom is read exactly if it is good. That every entry takes every
--- input and ends is what it is for a contract without `requires` to be proved; that its answer is one, the modules named
--- after the crates say.
+-- DEMAND 1, of the atom: every input has a row of document 01's table, with its number and data, its place and its
+-- budget, and the scratch after it; at most one row fits; and an atom is read exactly if it is good. That every entry
+-- takes every input and ends is what it is for a contract without `requires` to be proved; that its answer is one, the
+-- modules named after the crates say.
 use mathlib.Core.Path.{_≡_, refl, _∙_, sym, ap, subst}
 use mathlib.Core.Logic.{_⊎_, inl, inr}
 use mathlib.Core.Bool.{Bool, true, false}
@@ -40,7 +40,8 @@ use Rattle.little.specs.Le.{numberAt}
 use Rattle.float.specs.Floats.{allowedFloat, floatOf, floatFrom, floatBody}
 use Rattle.float.proofs.Counts.{allowed-is}
 use Rattle.atom.specs.Charges.{countOf, numberCharge}
-use Rattle.atom.specs.Atoms.{atomRead, atomScratch, atomFrom, scratchFrom, atomAfter, scratchAfter, charged, specialAtom}
+use Rattle.atom.specs.Atoms.{atomRead, atomScratch, atomFrom, scratchFrom, atomAfter, scratchAfter, charged}
+use Rattle.atom.specs.Atoms.{specialAtom}
 use Rattle.atom.specs.Atoms.{integerAfter, integerAtom, floatAfter, floatAtom, bytesAfter, bytesAtom, scratchCharged}
 use Rattle.dictionary.specs.Wholes.{known, bodyLength, chargeOf, isString}
 use Rattle.promises.specs.Told.{Told, told, markTold, integerTold, floatTold, toldAtom}
@@ -271,14 +272,16 @@ after-header way s budget scratch next arg K.Int h =
     (λ rest. integerAtom K.Int arg rest (integerFrom way s (next .0) K.Int (countOf arg))) (λ rest. scratch)
     (ltb (budget .0) (numberCharge (countOf arg))) refl refl
     (λ b. integers way s budget scratch next arg K.Int int refl refl b
-    (λ e. ap (λ (l : List ℤ). pos 2 ∷ l) (sym (integer-told (countOf arg) e (numberAt (countOf arg) s (next .0)) K.Int)))
+    (λ e. ap (λ (l : List ℤ). pos 2 ∷ l)
+    (sym (integer-told (countOf arg) e (numberAt (countOf arg) s (next .0)) K.Int)))
     (allowedCount (countOf arg)) (leb (next .0 + countOf arg) (length s)) (exact way) refl refl refl)
 after-header way s budget scratch next arg K.UInt h =
     charges way s budget scratch next arg K.UInt
     (λ rest. integerAtom K.UInt arg rest (integerFrom way s (next .0) K.UInt (countOf arg))) (λ rest. scratch)
     (ltb (budget .0) (numberCharge (countOf arg))) refl refl
     (λ b. integers way s budget scratch next arg K.UInt uint refl refl b
-    (λ e. ap (λ (l : List ℤ). pos 2 ∷ l) (sym (integer-told (countOf arg) e (numberAt (countOf arg) s (next .0)) K.UInt)))
+    (λ e. ap (λ (l : List ℤ). pos 2 ∷ l)
+    (sym (integer-told (countOf arg) e (numberAt (countOf arg) s (next .0)) K.UInt)))
     (allowedCount (countOf arg)) (leb (next .0 + countOf arg) (length s)) (exact way) refl refl refl)
 after-header way s budget scratch next arg K.Float h =
     charges way s budget scratch next arg K.Float

@@ -38,7 +38,8 @@ use Rattle.float.specs.Floats.{floatOf, floatFrom, floatBody}
 use Rattle.float.proofs.Counts.{allowed-is}
 use Rattle.dictionary.specs.Runs.{mostBytes}
 use Rattle.report.specs.Reports.{reportOf, mostFileBytes}
-use Rattle.promises.specs.Told.{Told, told, toldKind, toldSpecial, toldHeader, toldVersion, toldInteger, toldFloat}
+use Rattle.promises.specs.Told.{Told, told, toldKind, toldSpecial, toldHeader, toldVersion, toldInteger}
+use Rattle.promises.specs.Told.{toldFloat}
 use Rattle.promises.specs.Told.{toldBytes, toldRaw, toldWritten}
 use Rattle.promises.specs.Held.{copied}
 use Rattle.promises.specs.Rows.{endOf}

@@ -25,6 +25,8 @@ pub mod Held
 pub mod Demand1
 pub mod Entries
 pub mod Runs
+pub mod IntegerCasts
+pub mod Compared
 pub mod Integrals
 pub mod FloatCasts
 pub mod Demand2

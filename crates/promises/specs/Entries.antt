@@ -1,6 +1,7 @@
--- The table of document 01, "Refusals by number", of the entries beside the atom: of each, the rows that it can answer by,
--- named after their numbers, and `taken` for what is no refusal. Of each row: when it is given, its number and data, the place
--- after it, and the lent buffer; "Except where said, a refusal returns its number and data only, and buffers keep their bytes."
+-- The table of document 01, "Refusals by number", of the entries beside the atom: of each, the rows that it can answer
+-- by, named after their numbers, and `taken` for what is no refusal. Of each row: when it is given, its number and
+-- data, the place after it, and the lent buffer; "Except where said, a refusal returns its number and data only, and
+-- buffers keep their bytes."
 use Prim.Native.Nat.{ℕ, _+_, _-_, _%_, _≤_, _<_}
 use mathlib.Core.Path.{_≡_}
 use mathlib.Core.Logic.{_⊎_}
@@ -137,7 +138,8 @@ pub record FloatRows (way : Way) (s : List ℕ) (place : ℕ) (kind : Kind) (cou
       (pos (placeIn (length s) (startOf s place + count)) ∷ pos (numberAt count s (startOf s place))
       ∷ floatHeld count (numberAt count s (startOf s place)))
 
--- a string of n bytes: "then end of input, then scratch room"; its mark names its bytes, in the source or in the scratch
+-- a string of n bytes: "then end of input, then scratch room"; its mark names its bytes, in the source or in the
+-- scratch
 pub record StringRows (way : Way) (s : List ℕ) (place n : ℕ) (scratch : List ℕ) : Type 0 where
   pub four :
       length s < startOf s place + n →

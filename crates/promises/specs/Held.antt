@@ -1,5 +1,5 @@
--- What an atom that was read holds, told from its bytes, and what is copied of them. Document 01, "Bytes of an atom" and "Two
--- ways of reading".
+-- What an atom that was read holds, told from its bytes, and what is copied of them. Document 01, "Bytes of an atom"
+-- and "Two ways of reading".
 use Prim.Native.Nat.{ℕ}
 use mathlib.Core.List.{List, [], _∷_, _++_}
 use lib.Dec.{eqb, leb}
@@ -33,8 +33,8 @@ uintHeld count v = pos 0 ∷ pos (bitsAt count) ∷ pos v ∷ []
 abbrev pub integerHeld : Kind → ℕ → ℕ → List ℤ
 integerHeld kind count v = pick (eqb (kindCode kind) 1) (intHeld count v) (uintHeld count v)
 
--- "Two bytes read as an F32": how wide the float is, and what the stored bits mean in the format of that count, its sign and its
--- magnitude in units of 2^-1074, an infinity, or the NaN
+-- "Two bytes read as an F32": how wide the float is, and what the stored bits mean in the format of that count, its
+-- sign and its magnitude in units of 2^-1074, an infinity, or the NaN
 abbrev pub floatHeld : ℕ → ℕ → List ℤ
 floatHeld count bits = pos (pick (eqb count 8) 64 32) ∷ meaningTold (meaning (layoutAt count) bits)
 
@@ -48,8 +48,8 @@ specialHeld arg =
     (pick (eqb arg 4) (pos 6 ∷ [])
     (pick (eqb arg 5) (pos 7 ∷ []) (pos 8 ∷ []))))))
 
--- what an atom of a kind and an argument holds, whose body starts at that place of the source: a float its stored bits beside
--- what they mean, a string its mark; "Sequence, Map and Symbol are their header only."
+-- what an atom of a kind and an argument holds, whose body starts at that place of the source: a float its stored bits
+-- beside what they mean, a string its mark; "Sequence, Map and Symbol are their header only."
 abbrev pub held : Way → List ℕ → ℕ → Kind → ℕ → List ℤ
 held way s at K.Special arg = specialHeld arg
 held way s at K.Int arg = pos 2 ∷ intHeld (countOf arg) (numberAt (countOf arg) s at)
@@ -61,6 +61,7 @@ held way s at K.Map arg = pos 0 ∷ []
 held way s at K.Symbol arg = pos 0 ∷ []
 held way s at K.Bytes arg = pos 4 ∷ markTold (stringMark way at arg)
 
--- "Copying fills the first bytes and the rest keep their value": n bytes of the source from a place on, in a lent buffer
+-- "Copying fills the first bytes and the rest keep their value": n bytes of the source from a place on, in a lent
+-- buffer
 abbrev pub copied : List ℕ → ℕ → ℕ → List ℕ → List ℕ
 copied s at n old = take n (drop at s) ++ drop n old

@@ -1,8 +1,9 @@
 -- The table of document 01, "Refusals by number", as far as an atom can be refused: each row with when it is given, its
--- number and data, and the "Place and budget after"; "buffers keep their bytes". "Order within an atom: header, then special
--- known, or budget, then count allowed, then end of input, then scratch room": a row asks for what the rows before it did not
--- find, so that at most one fits. A row speaks of the way, the source, the budget and the scratch before, of what the header
--- read as, of the answer as it is told, and of the scratch after. Past the header is the place that the header left.
+-- number and data, and the "Place and budget after"; "buffers keep their bytes". "Order within an atom: header, then
+-- special known, or budget, then count allowed, then end of input, then scratch room": a row asks for what the rows
+-- before it did not find, so that at most one fits. A row speaks of the way, the source, the budget and the scratch
+-- before, of what the header read as, of the answer as it is told, and of the scratch after. Past the header is the
+-- place that the header left.
 use Prim.Native.Nat.{ℕ, _+_, _-_, _≤_, _<_}
 use mathlib.Core.Path.{_≡_}
 use mathlib.Core.Logic.{_⊎_}
@@ -64,8 +65,8 @@ pub record Good (way : Way) (s : List ℕ) (budget : Budget) (scratch : List ℕ
 abbrev pub refusal : ℕ → Place → Budget → List ℕ → Told
 refusal number place budget carried = told number (pos (place .0) ∷ pos (budget .0) ∷ map pos carried)
 
--- an atom that was read, told: the place just past it, or the end; the budget less its charge; its kind, its argument and what
--- it holds
+-- an atom that was read, told: the place just past it, or the end; the budget less its charge; its kind, its argument
+-- and what it holds
 abbrev pub taking : Way → List ℕ → Place → Budget → Kind → ℕ → Told
 taking way s next budget kind arg =
     told 0
