@@ -3,19 +3,21 @@
 use mathlib.Core.Path.{_≡_, refl, ap}
 use mathlib.Core.Bool.{Bool}
 use mathlib.Core.Logic.{_⊎_, inl, inr, ⊎-elim}
-use mathlib.Core.List.{List, [], _∷_}
+use mathlib.Core.List.{List, [], _∷_, _++_}
 use Prim.Native.Nat.{ℕ, _+_, _-_, _*_, _≤_, _<_}
 use lib.Dec.{T, lit<}
 use lib.IntN.{pos}
 use lib.ListN.{length}
 use lib.Ieee as Ieee
 use Rattle.types.specs.declared.Way.{Way}
+use Rattle.types.specs.declared.Way.the-variants as W
 use Rattle.types.specs.declared.Place.{Place}
 use Rattle.types.specs.declared.Budget.{Budget}
 use Rattle.types.specs.declared.Kind.{Kind}
 use Rattle.types.specs.declared.Kind.the-variants as K
 use Rattle.types.specs.declared.Integer.{Integer}
 use Rattle.types.specs.declared.Float.{Float}
+use Rattle.types.specs.declared.Refusal.{Refusal}
 use Rattle.types.specs.declared.HeaderAnswer.{HeaderAnswer}
 use Rattle.types.specs.declared.HeaderAnswer.the-variants as H
 use Rattle.header.specs.Header.{headerRead, headerLength}
@@ -127,6 +129,14 @@ pub demand1-run-one : (s : List ℕ) (budget : Budget) {answer : Told} →
     RunRow s (budget .0) answer →
     answer ≡ toldRan (runAll s budget)
 demand1-run-one s budget = Runs.one-run s (budget .0)
+
+-- What it stops by is the atom's own refusal: that of the atom there, read by itself with what is left of the budget.
+pub demand1-run-atom : (s front rest : List ℕ) (left : ℕ) {why : Refusal} {past charge : ℕ} →
+    s ≡ front ++ rest →
+    Barred rest left why past charge →
+    toldAtom (atomRead W.ExactLent s (length front) (record { 0 = left }) [])
+    ≡ refused (pos (length front + past) ∷ pos (left - charge) ∷ []) why
+demand1-run-atom = Runs.barred-atom
 
 -- 2: WHAT WAS WRITTEN READS BACK as the value written: every value, every way, anything before and after it, any budget
 -- of at least the price, any scratch with room.

@@ -7,16 +7,20 @@ use Prim.Native.Nat.{ℕ, _+_, _-_, _≤_, _<_}
 use native.Mathlib.Omega.{arith}
 use lib.Dec.{ltb}
 use lib.IntN.{pos}
-use lib.ListN.{length}
+use lib.ListN.{length, drop, length-append}
+use lib.Seq.{drop-append-seam}
 use borrow.Author.Tests.{ltb-true, ltb-false}
+use Rattle.types.specs.declared.Way.the-variants as W
 use Rattle.types.specs.declared.Refusal.{Refusal}
 use Rattle.types.specs.declared.Ran.{Ran}
+use Rattle.atom.specs.Atoms.{atomRead}
 use Rattle.dictionary.specs.Runs.{runAll}
 use Rattle.dictionary.specs.Wholes.{Atoms, total, price}
 use Rattle.dictionary.specs.Prices.{asked, Barred, Made, Broken}
-use Rattle.dictionary.proofs.Wholes.{Bars, spoilt-bars, dear-bars}
+use Rattle.dictionary.proofs.Turns.{step-refused}
+use Rattle.dictionary.proofs.Wholes.{Bars, barred-refuses, spoilt-bars, dear-bars}
 use Rattle.dictionary.proofs.Price.{run-priced, run-barred, parted, passing-bars, passing-some, judged}
-use Rattle.promises.specs.Told.{Told, refused, toldRan}
+use Rattle.promises.specs.Told.{Told, refused, toldAtom, toldRan}
 use Rattle.promises.specs.Runs.{RunRow, done, stopped}
 
 module _ (s : List ℕ) (budget : ℕ) where
@@ -77,6 +81,19 @@ module _ (s : List ℕ) (budget : ℕ) where
   one-run (done {atoms} w c) = ap toldRan (sym (run-priced s atoms budget w c))
   one-run (stopped {front} {rest} {atoms} {why} {past} {charge} e some w c b) =
       ap toldRan (sym (run-barred s front rest atoms budget w e c why past charge some b))
+
+-- an atom that is refused with what is left of the budget, read by itself
+pub barred-atom : (s front rest : List ℕ) (left : ℕ) {why : Refusal} {past charge : ℕ} →
+    s ≡ front ++ rest →
+    Barred rest left why past charge →
+    toldAtom (atomRead W.ExactLent s (length front) (record { 0 = left }) [])
+    ≡ refused (pos (length front + past) ∷ pos (left - charge) ∷ []) why
+barred-atom s front rest left e b =
+    let there : drop (length front) s ≡ rest = ap (drop (length front)) e ∙ drop-append-seam front rest in
+    let within : length front ≤ length s = omega (arith, ap length e ∙ length-append front rest) in
+    ap toldAtom
+    (step-refused _ _ _ s (length front) (record { 0 = left })
+    (barred-refuses s (length front) within rest there left b))
 
 -- a broken file, with a budget that suffices for what is asked up to the atom that is not whole or not known
 pub broken-run : (s : List ℕ) (b : Broken s) (budget : ℕ) → total price (b .atoms) + asked (b .rest) ≤ budget →
