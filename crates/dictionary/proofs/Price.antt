@@ -319,8 +319,12 @@ run-short s atoms budget w c =
     let q = p .passing in
     let starts = p .starts in
     let free : budget - total price (q .before) - 0 ≡ budget - total price (q .before) = omega arith in
-    let e = run-barred s (p .front) (q .atom ++ p .rest) (q .before) budget (p .wholes) (p .joined) (q .covered)
-    R.TooManyBytesRead (headerLength (q .atom)) 0 (passing-some s budget atoms p (p .rest)) (passing-bars s budget atoms p (p .rest)) in
+    let some = passing-some s budget atoms p (p .rest) in
+    let bars = passing-bars s budget atoms p (p .rest) in
+    let e =
+    run-barred s (p .front) (q .atom ++ p .rest) (q .before) budget (p .wholes) (p .joined) (q .covered)
+    R.TooManyBytesRead (headerLength (q .atom)) 0 some bars
+    in
     (q, cc)
 
 -- EVERY OTHER INPUT: whole, known atoms up to one that is not

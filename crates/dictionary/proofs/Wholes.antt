@@ -1,5 +1,5 @@
--- The step at a whole, known atom, with a budget that covers its charge; and at bytes that
--- start with no such atom, or with one that the budget does not cover.
+-- The step at a whole, known atom, with a budget that covers its charge; and at bytes that start with no such atom, or
+-- with one that the budget does not cover.
 use mathlib.Core.Path.{_≡_, refl, _∙_, sym, ap}
 use mathlib.Core.Bool.{Bool, true, false}
 use mathlib.Core.List.{List, _++_}
