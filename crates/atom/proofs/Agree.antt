@@ -8,6 +8,7 @@ use lib.Dec.{leb}
 use lib.ListN.{length, drop}
 use Rattle.types.specs.Choice.{pick}
 use Rattle.types.specs.Ways.{exact}
+use Rattle.types.specs.Forms.{known, bodyLength, chargeOf, unknown}
 use Rattle.types.specs.declared.Way.{Way}
 use Rattle.types.specs.declared.Way.the-variants as W
 use Rattle.types.specs.declared.Kind.{Kind}
@@ -28,56 +29,60 @@ use Rattle.header.proofs.Fewest.{length-bounds}
 use Rattle.header.proofs.Places.{headerPlace, header-place}
 use Rattle.reader.specs.Strings.{startOf}
 use Rattle.reader.proofs.Strings.{start-within}
-use Rattle.atom.specs.Charges.{countOf, numberCharge, budgetAfter}
-use Rattle.atom.specs.Atoms.{atomRead, atomFrom, atomAfter, charged, bytesAfter}
-use Rattle.atom.proofs.Numbers.{Number, integers, floats, numberBody, numberAfter, integer-number, float-number}
+use Rattle.atom.specs.Charges.{budgetAfter}
+use Rattle.atom.specs.Atoms.{atomRead, atomFrom, atomAfter, charged, judged, bodyTaken}
+use Rattle.atom.proofs.Numbers.{NumberForm, integers, floats, numberTaken, integer-taken, float-taken}
 use Rattle.atom.proofs.Forward.{atomPlace, after-on}
 
 -- what exact reading takes within the source, filled reading takes too
-filled-too : (a t : Bool) (whole filled other : AtomAnswer) (q : Place) (c : Budget) (r : Refusal) (p : Place)
-    (b : Budget) (x : Atom) → pick a (pick t whole (pick true (A.Refused q c r) filled)) other ≡ A.Read p b x →
-    pick a (pick t whole (pick false (A.Refused q c r) filled)) other ≡ A.Read p b x
-filled-too true true whole filled other q c r p b x e = e
-filled-too true false whole filled other q c r p b x e = absurd (false≢true cc)
-filled-too false t whole filled other q c r p b x e = e
+filled-too : (t : Bool) (whole filled : AtomAnswer) (q : Place) (c : Budget) (r : Refusal) (p : Place) (b : Budget)
+    (x : Atom) → pick t whole (pick true (A.Refused q c r) filled) ≡ A.Read p b x →
+    pick t whole (pick false (A.Refused q c r) filled) ≡ A.Read p b x
+filled-too true whole filled q c r p b x e = e
+filled-too false whole filled q c r p b x e = absurd (false≢true cc)
 
-charged-filled : (next : Place) (budget : Budget) (a : BudgetAnswer) (f g : Budget → AtomAnswer) (p : Place)
-    (b : Budget) (x : Atom) → ((rest : Budget) → f rest ≡ A.Read p b x → g rest ≡ A.Read p b x) →
-    charged next budget a f ≡ A.Read p b x → charged next budget a g ≡ A.Read p b x
-charged-filled next budget (BA.Left rest) f g p b x h e = h rest e
-charged-filled next budget (BA.Refused r) f g p b x h e = e
+-- the charge, and whether the atom is known, are the same for both
+judged-filled : (next : Place) (budget : Budget) (a : BudgetAnswer) (k : Bool) (r : Refusal) (f g : Budget → AtomAnswer)
+    (p : Place) (b : Budget) (x : Atom) → ((rest : Budget) → f rest ≡ A.Read p b x → g rest ≡ A.Read p b x) →
+    charged next budget a (λ rest. pick k (f rest) (A.Refused next rest r)) ≡ A.Read p b x →
+    charged next budget a (λ rest. pick k (g rest) (A.Refused next rest r)) ≡ A.Read p b x
+judged-filled next budget (BA.Left rest) true r f g p b x h e = h rest e
+judged-filled next budget (BA.Left rest) false r f g p b x h e = absurd (false≢true cc)
+judged-filled next budget (BA.Refused q) k r f g p b x h e = absurd (false≢true cc)
 
 module _ (s : List ℕ) (budget : Budget) (scratch : List ℕ) (p : Place) (b : Budget) (x : Atom) where
   -- what follows a header: a number, and what has no other bytes
   module _ (arg : ℕ) (next : Place) where
-    number-filled : (n : Number) (exactly filled : AtomAnswer) →
-        exactly ≡ numberAfter n W.ExactLent s arg next budget → filled ≡ numberAfter n W.Filled s arg next budget →
-        exactly ≡ A.Read p b x → filled ≡ A.Read p b x
-    unfolding numberAfter
-    number-filled n exactly filled f g e =
-        g
-        ∙ charged-filled next budget (budgetAfter budget (numberCharge (countOf arg)))
-        (numberBody n W.ExactLent s arg next (countOf arg)) (numberBody n W.Filled s arg next (countOf arg)) p b x
-        (λ rest h. filled-too (n .allowed (countOf arg)) (leb (next .0 + countOf arg) (length s)) _ _ _ _ _ _ p b x h)
-        (sym f ∙ e)
+    module _ (rest : Budget) where
+      number-filled : (n : NumberForm) (exactly filled : AtomAnswer) → exactly ≡ numberTaken n W.ExactLent s arg next rest →
+          filled ≡ numberTaken n W.Filled s arg next rest → exactly ≡ A.Read p b x → filled ≡ A.Read p b x
+      number-filled n exactly filled f g e =
+          g
+          ∙ filled-too (leb (next .0 + bodyLength (n .kind) arg) (length s)) _ _ _ _ _ p b x (sym f ∙ e)
+
+      taken-filled : (kind : Kind) → bodyTaken W.ExactLent s kind arg next scratch rest ≡ A.Read p b x →
+          bodyTaken W.Filled s kind arg next scratch rest ≡ A.Read p b x
+      taken-filled K.Special e = e
+      taken-filled K.Int e =
+          number-filled (integers K.Int) _ _ (integer-taken W.ExactLent s arg next K.Int rest)
+          (integer-taken W.Filled s arg next K.Int rest) e
+      taken-filled K.UInt e =
+          number-filled (integers K.UInt) _ _ (integer-taken W.ExactLent s arg next K.UInt rest)
+          (integer-taken W.Filled s arg next K.UInt rest) e
+      taken-filled K.Float e =
+          number-filled floats _ _ (float-taken W.ExactLent s arg next rest) (float-taken W.Filled s arg next rest) e
+      taken-filled K.Sequence e = e
+      taken-filled K.Map e = e
+      taken-filled K.Symbol e = e
+      taken-filled K.Bytes e = e
 
     after-filled : (kind : Kind) → atomAfter W.ExactLent s kind arg next budget scratch ≡ A.Read p b x →
         atomAfter W.Filled s kind arg next budget scratch ≡ A.Read p b x
-    unfolding bytesAfter
-    after-filled K.Special e = e
-    after-filled K.Int e =
-        number-filled (integers K.Int) _ _ (integer-number W.ExactLent s arg next budget K.Int refl)
-        (integer-number W.Filled s arg next budget K.Int refl) e
-    after-filled K.UInt e =
-        number-filled (integers K.UInt) _ _ (integer-number W.ExactLent s arg next budget K.UInt refl)
-        (integer-number W.Filled s arg next budget K.UInt refl) e
-    after-filled K.Float e =
-        number-filled floats _ _ (float-number W.ExactLent s arg next budget)
-        (float-number W.Filled s arg next budget) e
-    after-filled K.Sequence e = e
-    after-filled K.Map e = e
-    after-filled K.Symbol e = e
-    after-filled K.Bytes e = e
+    unfolding judged
+    after-filled kind e =
+        judged-filled next budget (budgetAfter budget (chargeOf kind arg)) (known kind arg) (unknown kind arg)
+        (bodyTaken W.ExactLent s kind arg next scratch) (bodyTaken W.Filled s kind arg next scratch) p b x
+        (λ rest f. taken-filled rest kind f) e
 
   -- the header, whose bytes exact reading has
   from-filled : (t : Bool) (next end : Place) (kind : Kind) (arg : ℕ) →

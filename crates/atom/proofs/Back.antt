@@ -1,18 +1,19 @@
 -- What was written reads back: the header decides, and what follows it is the body's own round trip.
-use mathlib.Core.Path.{_≡_, _∙_, sym, ap}
+use mathlib.Core.Path.{_≡_, refl, _∙_, sym, ap}
 use mathlib.Core.List.{List, _++_, append-assoc}
 use Prim.Native.Nat.{ℕ, _+_, _-_, _≤_, _<_, _^_}
 use native.Mathlib.Omega.{arith}
 use lib.ListN.{length, length-append}
 use borrow.Author.Tests.{le-ltb}
 use Rattle.types.specs.Counters.{placeIn}
-use Rattle.types.specs.Kinds.{specialCode}
+use Rattle.types.specs.Kinds.{specialCode, specialKnown}
 use Rattle.types.proofs.Places.{place-same}
-use Rattle.types.proofs.Specials.{special-known, special-small}
+use Rattle.types.proofs.Specials.{special-known, special-small, special-below}
 use Rattle.types.specs.declared.Way.{Way}
 use Rattle.types.specs.declared.Kind.{Kind}
 use Rattle.types.specs.declared.Kind.the-variants as K
 use Rattle.types.specs.declared.Special.{Special}
+use Rattle.types.specs.declared.SpecialAnswer.{SpecialAnswer}
 use Rattle.types.specs.declared.Place.{Place}
 use Rattle.types.specs.declared.Budget.{Budget}
 use Rattle.types.specs.declared.Nucleus.the-variants as N
@@ -23,8 +24,9 @@ use Rattle.header.proofs.RoundTrip.{header-back}
 use Rattle.reader.specs.Strings.{stringAnswer, stringMark, scratchNeeded}
 use Rattle.reader.proofs.Delivered.{string-back}
 use Rattle.atom.specs.Charges.{budgetAfter}
-use Rattle.atom.specs.Atoms.{atomRead, atomFrom, atomAfter, atomOf, specialAtom, specialNucleus, bytesAtom}
-use Rattle.atom.proofs.Answers.{bytes-left}
+use Rattle.atom.specs.Atoms.{atomRead, atomFrom, atomAfter, atomOf, specialNucleus, headerTaken, specialTaken}
+use Rattle.atom.specs.Atoms.{bytesTaken, bytesAtom}
+use Rattle.atom.proofs.Answers.{free, judged-left}
 
 -- a charge within the budget leaves the budget less the charge
 pub paid : (b : Budget) (c : ℕ) → c ≤ b .0 → budgetAfter b c ≡ BA.Left (record { 0 = b .0 - c })
@@ -43,8 +45,13 @@ atom-back way kind arg before rest budget scratch l =
 -- each special reads back as itself, for nothing
 pub special-back : (way : Way) (special : Special) (before after : List ℕ) (budget : Budget) (scratch : List ℕ) → atomRead way (before ++ (headerBytes K.Special (specialCode special) ++ after)) (length before) budget scratch ≡ A.Read (record { 0 = length before + length (headerBytes K.Special (specialCode special)) }) budget (atomOf K.Special (specialCode special) (specialNucleus special))
 special-back way special before after budget scratch =
-    atom-back way K.Special (specialCode special) before after budget scratch (let l = special-small special in omega arith)
-    ∙ ap (specialAtom (specialCode special) (record { 0 = length before + length (headerBytes K.Special (specialCode special)) }) budget) (special-known special)
+    let code = specialCode special in
+    let next : Place = record { 0 = length before + length (headerBytes K.Special code) } in
+    let here = special-known special in
+    atom-back way K.Special code before after budget scratch (let l = special-small special in omega arith)
+    ∙ sym (judged-left K.Special code next budget (specialTaken code next) budget (free budget)
+    (special-below code special here))
+    ∙ ap (λ (a : SpecialAnswer). headerTaken K.Special code next (specialNucleus (specialKnown a)) budget) here
 
 -- a string reads back under every way, from a budget of at least its length, lent or copied
 pub bytes-back : (way : Way) (before bytes after : List ℕ) (budget : Budget) (scratch : List ℕ) → length bytes < 2 ^ 64 → length bytes ≤ budget .0 → scratchNeeded way (length bytes) ≤ length scratch → atomRead way (before ++ (headerBytes K.Bytes (length bytes) ++ (bytes ++ after))) (length before) budget scratch ≡ A.Read (record { 0 = length before + length (headerBytes K.Bytes (length bytes)) + length bytes }) (record { 0 = budget .0 - length bytes }) (atomOf K.Bytes (length bytes) (N.Bytes (stringMark way (length before + length (headerBytes K.Bytes (length bytes))) (length bytes))))
@@ -57,6 +64,7 @@ bytes-back way before bytes after budget scratch l b r =
     let left : Budget = record { 0 = budget .0 - length bytes } in
     let back = string-back s (before ++ hd) bytes after split way scratch r in
     atom-back way K.Bytes (length bytes) before (bytes ++ after) budget scratch l
-    ∙ sym (bytes-left way s (length bytes) next budget left scratch (paid budget (length bytes) b))
+    ∙ sym (judged-left K.Bytes (length bytes) next budget (bytesTaken way s (length bytes) next scratch) left
+    (paid budget (length bytes) b) refl)
     ∙ ap (bytesAtom (length bytes) left) (ap (λ (p : ℕ). stringAnswer way s p (length bytes) scratch) (sym n) ∙ back .0)
     ∙ ap (λ (p : ℕ). A.Read (record { 0 = p + length bytes }) left (atomOf K.Bytes (length bytes) (N.Bytes (stringMark way p (length bytes))))) n

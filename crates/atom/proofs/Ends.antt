@@ -11,7 +11,10 @@ use denote.Enum.Declared.{tagOf}
 use lib.ListN.{length}
 use Rattle.types.specs.Kinds.{specialFrom}
 use Rattle.types.specs.Ways.{exact}
+use Rattle.types.specs.Forms.{countOf, numberCharge, chargeOf, unsupported}
+use Rattle.types.specs.Forms as Forms
 use Rattle.types.proofs.Kind.{the-type}
+use Rattle.types.proofs.Specials.{special-below, special-above}
 use Rattle.types.specs.declared.Way.{Way}
 use Rattle.types.specs.declared.Kind.{Kind}
 use Rattle.types.specs.declared.Kind.the-variants as K
@@ -43,11 +46,12 @@ use Rattle.reader.specs.Strings.{startOf, stringAnswer, stringScratch}
 use Rattle.reader.proofs.Strings.{start-within}
 use Rattle.integer.specs.Integers.{integerKind, integerOf}
 use Rattle.float.specs.Floats.{floatOf}
-use Rattle.atom.specs.Charges.{countOf, numberCharge, budgetAfter}
-use Rattle.atom.specs.Atoms.{atomOf, specialNucleus, specialAtom, integerAfter, floatAfter, bytesAfter}
-use Rattle.atom.specs.Atoms.{scratchCharged, atomAfter, scratchAfter, atomRead, atomScratch}
-use Rattle.atom.proofs.Answers.{too-many}
-use Rattle.atom.proofs.Numbers.{Number, integers, floats, numberAfter, integer-number, float-number}
+use Rattle.atom.specs.Charges.{budgetAfter}
+use Rattle.atom.specs.Atoms.{atomOf, specialNucleus, judged, headerTaken, specialTaken, integerTaken, floatTaken}
+use Rattle.atom.specs.Atoms.{bytesTaken, atomAfter, scratchAfter, atomRead, atomScratch}
+use Rattle.atom.proofs.Answers.{too-many, free, judged-dear}
+use Rattle.atom.proofs.Numbers.{NumberForm, Means, integers, floats, integer-means, float-means, numberAfter}
+use Rattle.atom.proofs.Numbers.{integer-number, float-number}
 
 -- what a number costs in memory
 module _ (count : ℕ) where
@@ -71,16 +75,20 @@ module _ (budget : Budget) (charge : ℕ) where
 pub ruleset charge-ends =
     (three-cost-four, six-cost-eight, others-cost-themselves, budget-short, budget-enough, needs)
 
--- a special, known and not
+-- a special, known and not; it costs nothing
 module _ (arg : ℕ) (next : Place) (budget : Budget) (got : SpecialAnswer) (g : got ≡ specialFrom arg) where
   pub special-known : (special : Special) (nucleus : Nucleus) → got ≡ SA.Known special →
       nucleus ≡ specialNucleus special →
-      A.Read next budget (atomOf K.Special arg nucleus) ≡ specialAtom arg next budget (specialFrom arg)
-  special-known special nucleus e n = cc
+      A.Read next budget (atomOf K.Special arg nucleus) ≡ judged K.Special arg next budget (specialTaken arg next)
+  unfolding judged
+  special-known special nucleus e n = cc (free budget, special-below arg special (sym g ∙ e))
 
   pub special-unknown : (r : Refusal) → got ≡ SA.Refused r →
-      A.Refused next budget r ≡ specialAtom arg next budget (specialFrom arg)
-  special-unknown r e = cc
+      A.Refused next budget r ≡ judged K.Special arg next budget (specialTaken arg next)
+  unfolding judged
+  special-unknown r e =
+      let above = special-above arg r (sym g ∙ e) in
+      cc (free budget, above .0, above .1)
 
 pub ruleset special-ends = (special-known, special-unknown, needs)
 
@@ -100,49 +108,53 @@ pub float-made : (arg count bits : ℕ) (value : Float) → value ≡ floatOf co
 float-made arg count bits value v = cc
 
 -- a number, once its header is read and its charge judged
-module _ (n : Number) (way : Way) (s : List ℕ) (arg : ℕ) (next : Place) (budget : Budget) where
-  module _ (count charge : ℕ) (paid : BudgetAnswer) (c : count ≡ countOf arg) (h : charge ≡ numberCharge count)
-      (p : paid ≡ budgetAfter budget charge) where
+module _ (n : NumberForm) (way : Way) (s : List ℕ) (arg : ℕ) (next : Place) (budget : Budget) where
+  module _ (count charge : ℕ) (paid : BudgetAnswer) (m : Means n arg) (c : count ≡ countOf arg)
+      (h : charge ≡ numberCharge count) (p : paid ≡ budgetAfter budget charge) where
     -- the charge exceeds the budget
     pub number-too-dear : (r : Refusal) → paid ≡ BA.Refused r →
         A.Refused next budget R.TooManyBytesRead ≡ numberAfter n way s arg next budget
-    unfolding numberAfter
-    number-too-dear r e = cc (too-many budget charge r (sym p ∙ e))
+    unfolding numberAfter judged
+    number-too-dear r e = cc (m .costs, too-many budget charge r (sym p ∙ e))
 
     module _ (rest : Budget) (ok : Bool) (left : paid ≡ BA.Left rest) (o : ok ≡ n .allowed count) where
       -- the count is not allowed
-      pub number-unsupported : (kind : Kind) → n .kind ≡ kind → ok ≡ false →
-          A.Refused next rest (R.UnsupportedByteCount kind count) ≡ numberAfter n way s arg next budget
-      unfolding numberAfter
-      number-unsupported kind k f = cc
+      pub number-unsupported : (kind : Kind) (why : Refusal) → n .kind ≡ kind → why ≡ unsupported kind count →
+          ok ≡ false → A.Refused next rest why ≡ numberAfter n way s arg next budget
+      unfolding numberAfter judged
+      number-unsupported kind why k w f = cc (m .costs, m .knows, m .refuses)
 
       -- it is: the bytes are there; they are not, in exact reading, and in filled reading
       module _ (f : ok ≡ true) (within : next .0 ≤ length s) where
         pub number-whole : (atom : Atom) → count ≤ length s - next .0 →
             atom ≡ atomOf (n .kind) arg (n .nucleus count (numberAt count s (next .0))) →
             A.Read (record { 0 = next .0 + count }) rest atom ≡ numberAfter n way s arg next budget
-        unfolding numberAfter
-        number-whole atom l a = cc (le-leb (next .0 + count) (length s) (omega arith))
+        unfolding numberAfter judged
+        number-whole atom l a =
+            cc (m .costs, m .knows, m .long, le-leb (next .0 + count) (length s) (omega arith))
 
         module _ (exactly : Bool) (l : length s - next .0 < count) (x : exactly ≡ exact way) where
           pub number-past-end : exactly ≡ true →
               A.Refused (record { 0 = length s }) rest R.Eof ≡ numberAfter n way s arg next budget
-          unfolding numberAfter
-          number-past-end y = cc (lt-leb (next .0 + count) (length s) (omega arith))
+          unfolding numberAfter judged
+          number-past-end y =
+              cc (m .costs, m .knows, m .long, lt-leb (next .0 + count) (length s) (omega arith))
 
           pub number-filled : (atom : Atom) → exactly ≡ false →
               atom ≡ atomOf (n .kind) arg (n .nucleus count (numberAt count s (next .0))) →
               A.Read (record { 0 = length s }) rest atom ≡ numberAfter n way s arg next budget
-          unfolding numberAfter
-          number-filled atom y a = cc (lt-leb (next .0 + count) (length s) (omega arith))
+          unfolding numberAfter judged
+          number-filled atom y a =
+              cc (m .costs, m .knows, m .long, lt-leb (next .0 + count) (length s) (omega arith))
 
 -- an integer and a float are numbers
 module _ (way : Way) (s : List ℕ) (arg : ℕ) (next : Place) (budget : Budget) (answer : AtomAnswer) where
-  pub integer-as-number : (kind : Kind) → integerKind kind ≡ true →
-      answer ≡ numberAfter (integers kind) way s arg next budget → answer ≡ integerAfter way s kind arg next budget
-  integer-as-number kind k e = e ∙ sym (integer-number way s arg next budget kind k)
+  pub integer-as-number : (kind : Kind) → answer ≡ numberAfter (integers kind) way s arg next budget →
+      answer ≡ judged kind arg next budget (integerTaken way s kind arg next)
+  integer-as-number kind e = e ∙ sym (integer-number way s arg next kind budget)
 
-  pub float-as-number : answer ≡ numberAfter floats way s arg next budget → answer ≡ floatAfter way s arg next budget
+  pub float-as-number : answer ≡ numberAfter floats way s arg next budget →
+      answer ≡ judged K.Float arg next budget (floatTaken way s arg next)
   float-as-number e = e ∙ sym (float-number way s arg next budget)
 
 -- a test that a callee made, and how it came out
@@ -151,7 +163,7 @@ tested ok said found s f = sym s ∙ f
 
 pub ruleset judged-ends = (number-too-dear, number-unsupported, number-whole, number-past-end, number-filled)
 
-pub ruleset held-ends = (integer-held, float-held, float-made, integer-as-number, float-as-number)
+pub ruleset held-ends = (integer-held, float-held, float-made, integer-as-number, float-as-number, integer-means, float-means)
 
 pub ruleset number-ends = (judged-ends, held-ends, tested, needs)
 
@@ -160,12 +172,11 @@ module _ (way : Way) (s : List ℕ) (arg : ℕ) (next : Place) (budget : Budget)
     (p : paid ≡ budgetAfter budget arg) where
   -- the charge exceeds the budget, and scratch is as it was
   pub string-too-dear : (r : Refusal) → paid ≡ BA.Refused r →
-      A.Refused next budget R.TooManyBytesRead ≡ bytesAfter way s arg next budget scratch
-  unfolding bytesAfter
-  string-too-dear r e = cc (too-many budget arg r (sym p ∙ e))
+      A.Refused next budget R.TooManyBytesRead ≡ judged K.Bytes arg next budget (bytesTaken way s arg next scratch)
+  string-too-dear r e = judged-dear K.Bytes arg next budget _ r (sym p ∙ e)
 
   pub scratch-kept : (r : Refusal) → paid ≡ BA.Refused r →
-      scratch ≡ scratchCharged way s (next .0) arg scratch (budgetAfter budget arg)
+      scratch ≡ scratchAfter way s K.Bytes arg next budget scratch
   scratch-kept r e = cc
 
   -- it does not: the string is read, or refused, and scratch is as the string leaves it
@@ -173,17 +184,17 @@ module _ (way : Way) (s : List ℕ) (arg : ℕ) (next : Place) (budget : Budget)
     module _ (got : BytesAnswer) (g : got ≡ stringAnswer way s (next .0) arg scratch) (place : Place) where
       pub string-read : (mark : Mark) (atom : Atom) → got ≡ B.Read place mark →
           atom ≡ atomOf K.Bytes arg (N.Bytes mark) →
-          A.Read place rest atom ≡ bytesAfter way s arg next budget scratch
-      unfolding bytesAfter
+          A.Read place rest atom ≡ judged K.Bytes arg next budget (bytesTaken way s arg next scratch)
+      unfolding judged
       string-read mark atom e a = cc
 
       pub string-refused : (r : Refusal) → got ≡ B.Refused place r →
-          A.Refused place rest r ≡ bytesAfter way s arg next budget scratch
-      unfolding bytesAfter
+          A.Refused place rest r ≡ judged K.Bytes arg next budget (bytesTaken way s arg next scratch)
+      unfolding judged
       string-refused r e = cc
 
     pub scratch-filled : (filled : List ℕ) → filled ≡ stringScratch way s (next .0) arg scratch →
-        filled ≡ scratchCharged way s (next .0) arg scratch (budgetAfter budget arg)
+        filled ≡ scratchAfter way s K.Bytes arg next budget scratch
     scratch-filled filled e = cc
 
 pub ruleset string-ends = (string-too-dear, scratch-kept, string-read, string-refused, scratch-filled, needs)
@@ -199,10 +210,12 @@ module _ (way : Way) (s : List ℕ) (kind known : Kind) (arg : ℕ) (next : Plac
       after ≡ scratchAfter way s kind arg next budget scratch
   scratch-of after e = cc
 
--- the header says all
+-- the header says all, and costs nothing
 pub header-alone : (kind known : Kind) (arg : ℕ) (next : Place) (budget : Budget) (atom : Atom) → kind ≡ known →
-    atom ≡ atomOf kind arg N.None → A.Read next budget atom ≡ A.Read next budget (atomOf known arg N.None)
-header-alone kind known arg next budget atom k a = cc
+    chargeOf known arg ≡ 0 → Forms.known known arg ≡ true → atom ≡ atomOf kind arg N.None →
+    A.Read next budget atom ≡ judged known arg next budget (headerTaken known arg next N.None)
+unfolding judged
+header-alone kind known arg next budget atom k c o a = cc (free budget)
 
 -- Int and UInt have one arm, which the tag leads to
 abbrev OfIntegers : Kind → Type 0
@@ -223,11 +236,13 @@ module _ (kind : Kind) (h : OfIntegers kind) where
   integer-kind = two-kinds (λ k. integerKind k ≡ true) refl refl kind h
 
   module _ (way : Way) (s : List ℕ) (arg : ℕ) (next : Place) (budget : Budget) (scratch : List ℕ) where
-    pub integer-body : (answer : AtomAnswer) → answer ≡ integerAfter way s kind arg next budget →
+    pub integer-body : (answer : AtomAnswer) →
+        answer ≡ judged kind arg next budget (integerTaken way s kind arg next) →
         answer ≡ atomAfter way s kind arg next budget scratch
     integer-body answer e =
-        e ∙ two-kinds (λ k. integerAfter way s k arg next budget ≡ atomAfter way s k arg next budget scratch) refl refl
-        kind h
+        e
+        ∙ two-kinds (λ k. judged k arg next budget (integerTaken way s k arg next)
+        ≡ atomAfter way s k arg next budget scratch) refl refl kind h
 
     pub integer-scratch : scratch ≡ scratchAfter way s kind arg next budget scratch
     integer-scratch = two-kinds (λ k. scratch ≡ scratchAfter way s k arg next budget scratch) refl refl kind h

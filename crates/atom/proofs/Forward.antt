@@ -11,7 +11,7 @@ use borrow.Author.Tests.{leb-true}
 use lib.ListN.{length}
 use Rattle.types.specs.Choice.{pick}
 use Rattle.types.specs.Ways.{exact}
-use Rattle.types.specs.Kinds.{specialFrom}
+use Rattle.types.specs.Forms.{known, bodyLength, chargeOf, unknown}
 use Rattle.types.specs.declared.Way.{Way}
 use Rattle.types.specs.declared.Kind.{Kind}
 use Rattle.types.specs.declared.Kind.the-variants as K
@@ -20,8 +20,7 @@ use Rattle.types.specs.declared.Budget.{Budget}
 use Rattle.types.specs.declared.Atom.{Atom}
 use Rattle.types.specs.declared.Refusal.{Refusal}
 use Rattle.types.specs.declared.Refusal.the-variants as R
-use Rattle.types.specs.declared.SpecialAnswer.{SpecialAnswer}
-use Rattle.types.specs.declared.SpecialAnswer.the-variants as SA
+use Rattle.types.specs.declared.Nucleus.{Nucleus}
 use Rattle.types.specs.declared.HeaderAnswer.{HeaderAnswer}
 use Rattle.types.specs.declared.HeaderAnswer.the-variants as H
 use Rattle.types.specs.declared.BytesAnswer.{BytesAnswer}
@@ -34,9 +33,9 @@ use Rattle.header.proofs.Places.{headerPlace, header-place}
 use Rattle.reader.specs.Strings.{startOf, stringAnswer, stringPlace}
 use Rattle.reader.proofs.Strings.{start-within, start-same}
 use Rattle.reader.proofs.Delivered.{string-forward}
-use Rattle.atom.specs.Charges.{countOf, numberCharge}
-use Rattle.atom.specs.Atoms.{atomRead, atomFrom, atomAfter, specialAtom, charged, bytesAtom, bytesAfter}
-use Rattle.atom.proofs.Numbers.{Number, integers, floats, numberBody, numberAfter, integer-number, float-number}
+use Rattle.atom.specs.Atoms.{atomRead, atomFrom, atomAfter, charged, judged, bytesAtom, headerTaken, bytesTaken}
+use Rattle.atom.specs.Atoms.{bodyTaken}
+use Rattle.atom.proofs.Numbers.{NumberForm, integers, floats, numberTaken, integer-taken, float-taken}
 
 -- the place and the budget after, refused or not
 abbrev pub atomPlace : AtomAnswer → ℕ
@@ -69,59 +68,62 @@ charged-on next budget charge end body h f true e =
     record { not-back = le-refl (next .0); not-past = h; not-up = le-refl (budget .0) }
 charged-on next budget charge end body h f false e = f (record { 0 = budget .0 - charge }) (omega arith)
 
-header-on : (next : Place) (budget : Budget) (end : ℕ) (a : AtomAnswer) → atomPlace a ≡ next .0 →
-    atomBudget a ≡ budget .0 → next .0 ≤ end → Onward (next .0) end (budget .0) a
-header-on next budget end a p b h =
-    record { not-back = rw p (le-refl (next .0)); not-past = rw p h; not-up = rw b (le-refl (budget .0)) }
-
-special-on : (arg : ℕ) (next : Place) (budget : Budget) (end : ℕ) (a : SpecialAnswer) → next .0 ≤ end →
-    Onward (next .0) end (budget .0) (specialAtom arg next budget a)
-special-on arg next budget end (SA.Known special) h = header-on next budget end _ refl refl h
-special-on arg next budget end (SA.Refused r) h = header-on next budget end _ refl refl h
-
 module _ (way : Way) (s : List ℕ) (arg : ℕ) (next : Place) (budget : Budget) (scratch : List ℕ)
     (h : next .0 ≤ length s) where
-  number-on : (n : Number) → Onward (next .0) (length s) (budget .0) (numberAfter n way s arg next budget)
-  unfolding numberAfter
-  number-on n =
-      charged-on next budget (numberCharge (countOf arg)) (length s) (numberBody n way s arg next (countOf arg)) h
-      (λ rest l. on rest l (n .allowed (countOf arg)) (leb (next .0 + countOf arg) (length s)) (exact way) refl _ _)
-      (ltb (budget .0) (numberCharge (countOf arg)))
-      refl
-    where
-      on : (rest : Budget) → rest .0 ≤ budget .0 → (a t e : Bool) → leb (next .0 + countOf arg) (length s) ≡ t →
-          (x : Atom) (r : Refusal) →
-          Onward (next .0) (length s) (budget .0)
-          (pick a
-          (pick t (A.Read (record { 0 = next .0 + countOf arg }) rest x)
-          (pick e (A.Refused (record { 0 = length s }) rest R.Eof) (A.Read (record { 0 = length s }) rest x)))
-          (A.Refused next rest r))
-      on rest l true true e f x r =
-          record { not-back = omega arith; not-past = leb-true (next .0 + countOf arg) (length s) f; not-up = l }
-      on rest l true false true f x r = record { not-back = h; not-past = le-refl (length s); not-up = l }
-      on rest l true false false f x r = record { not-back = h; not-past = le-refl (length s); not-up = l }
-      on rest l false t e f x r = record { not-back = le-refl (next .0); not-past = h; not-up = l }
+  -- the charge, and whether the atom is known
+  known-on : (rest : Budget) → rest .0 ≤ budget .0 → (k : Bool) (a : AtomAnswer) (r : Refusal) →
+      Onward (next .0) (length s) (budget .0) a →
+      Onward (next .0) (length s) (budget .0) (pick k a (A.Refused next rest r))
+  known-on rest l true a r w = w
+  known-on rest l false a r w = record { not-back = le-refl (next .0); not-past = h; not-up = l }
 
-  strings : Onward (next .0) (length s) (budget .0) (bytesAfter way s arg next budget scratch)
-  unfolding bytesAfter
-  strings =
-      let w = string-forward way s (next .0) arg scratch in
-      let same = start-same s (next .0) h in
-      charged-on next budget arg (length s) (λ b. bytesAtom arg b (stringAnswer way s (next .0) arg scratch)) h
-      (λ rest l. bytes-on (next .0) (length s) (budget .0) arg rest (stringAnswer way s (next .0) arg scratch)
-      (subst (λ (n : ℕ). n ≤ stringPlace (stringAnswer way s (next .0) arg scratch)) same (w .0)) (w .1) l)
-      (ltb (budget .0) arg)
+  judged-on : (kind : Kind) (body : Budget → AtomAnswer) →
+      ((rest : Budget) → rest .0 ≤ budget .0 → Onward (next .0) (length s) (budget .0) (body rest)) →
+      Onward (next .0) (length s) (budget .0) (judged kind arg next budget body)
+  unfolding judged
+  judged-on kind body f =
+      charged-on next budget (chargeOf kind arg) (length s)
+      (λ rest. pick (known kind arg) (body rest) (A.Refused next rest (unknown kind arg))) h
+      (λ rest l. known-on rest l (known kind arg) (body rest) (unknown kind arg) (f rest l))
+      (ltb (budget .0) (chargeOf kind arg))
       refl
+
+  module _ (rest : Budget) (l : rest .0 ≤ budget .0) where
+    header-on : (kind : Kind) (nucleus : Nucleus) →
+        Onward (next .0) (length s) (budget .0) (headerTaken kind arg next nucleus rest)
+    header-on kind nucleus = record { not-back = le-refl (next .0); not-past = h; not-up = l }
+
+    number-on : (n : NumberForm) → Onward (next .0) (length s) (budget .0) (numberTaken n way s arg next rest)
+    number-on n = on (bodyLength (n .kind) arg) (leb (next .0 + bodyLength (n .kind) arg) (length s)) (exact way) refl _
+      where
+        on : (count : ℕ) (t e : Bool) → leb (next .0 + count) (length s) ≡ t → (x : Atom) →
+            Onward (next .0) (length s) (budget .0)
+            (pick t (A.Read (record { 0 = next .0 + count }) rest x)
+            (pick e (A.Refused (record { 0 = length s }) rest R.Eof) (A.Read (record { 0 = length s }) rest x)))
+        on count true e f x =
+            record { not-back = omega arith; not-past = leb-true (next .0 + count) (length s) f; not-up = l }
+        on count false true f x = record { not-back = h; not-past = le-refl (length s); not-up = l }
+        on count false false f x = record { not-back = h; not-past = le-refl (length s); not-up = l }
+
+    string-on : Onward (next .0) (length s) (budget .0) (bytesTaken way s arg next scratch rest)
+    string-on =
+        let w = string-forward way s (next .0) arg scratch in
+        let same = start-same s (next .0) h in
+        bytes-on (next .0) (length s) (budget .0) arg rest (stringAnswer way s (next .0) arg scratch)
+        (subst (λ (n : ℕ). n ≤ stringPlace (stringAnswer way s (next .0) arg scratch)) same (w .0)) (w .1) l
+
+    taken-on : (kind : Kind) → Onward (next .0) (length s) (budget .0) (bodyTaken way s kind arg next scratch rest)
+    taken-on K.Special = header-on K.Special _
+    taken-on K.Int = rw (integer-taken way s arg next K.Int rest) (number-on (integers K.Int))
+    taken-on K.UInt = rw (integer-taken way s arg next K.UInt rest) (number-on (integers K.UInt))
+    taken-on K.Float = rw (float-taken way s arg next rest) (number-on floats)
+    taken-on K.Sequence = header-on K.Sequence _
+    taken-on K.Map = header-on K.Map _
+    taken-on K.Symbol = header-on K.Symbol _
+    taken-on K.Bytes = string-on
 
   pub after-on : (kind : Kind) → Onward (next .0) (length s) (budget .0) (atomAfter way s kind arg next budget scratch)
-  after-on K.Special = special-on arg next budget (length s) (specialFrom arg) h
-  after-on K.Int = rw (integer-number way s arg next budget K.Int refl) (number-on (integers K.Int))
-  after-on K.UInt = rw (integer-number way s arg next budget K.UInt refl) (number-on (integers K.UInt))
-  after-on K.Float = rw (float-number way s arg next budget) (number-on floats)
-  after-on K.Sequence = header-on next budget (length s) _ refl refl h
-  after-on K.Map = header-on next budget (length s) _ refl refl h
-  after-on K.Symbol = header-on next budget (length s) _ refl refl h
-  after-on K.Bytes = strings
+  after-on kind = judged-on kind (bodyTaken way s kind arg next scratch) (λ rest l. taken-on rest l kind)
 
 from-on : (way : Way) (s : List ℕ) (at : ℕ) (budget : Budget) (scratch : List ℕ) (a : HeaderAnswer) →
     at ≤ headerPlace a → headerPlace a ≤ length s → Onward at (length s) (budget .0) (atomFrom way s budget scratch a)

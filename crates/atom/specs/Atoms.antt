@@ -1,9 +1,11 @@
 -- One atom read. Document 01, "Charges": "Order within an atom: header, then special known, or budget, then count allowed,
--- then end of input, then scratch room."
+-- then end of input, then scratch room." What a kind and an argument mean stands in `types.Forms`.
 use Prim.Native.Nat.{ℕ}
 use mathlib.Core.Bool.{true, false}
 use mathlib.Core.List.{List}
-use Rattle.types.specs.Kinds.{specialFrom}
+use Rattle.types.specs.Choice.{pick}
+use Rattle.types.specs.Kinds.{specialFrom, specialKnown}
+use Rattle.types.specs.Forms.{known, bodyLength, chargeOf, isString, unknown}
 use Rattle.types.specs.declared.Way.{Way}
 use Rattle.types.specs.declared.Kind.{Kind}
 use Rattle.types.specs.declared.Kind.the-variants as K
@@ -14,8 +16,6 @@ use Rattle.types.specs.declared.Budget.{Budget}
 use Rattle.types.specs.declared.Nucleus.{Nucleus}
 use Rattle.types.specs.declared.Nucleus.the-variants as N
 use Rattle.types.specs.declared.Atom.{Atom}
-use Rattle.types.specs.declared.SpecialAnswer.{SpecialAnswer}
-use Rattle.types.specs.declared.SpecialAnswer.the-variants as SA
 use Rattle.types.specs.declared.HeaderAnswer.{HeaderAnswer}
 use Rattle.types.specs.declared.HeaderAnswer.the-variants as H
 use Rattle.types.specs.declared.IntegerAnswer.{IntegerAnswer}
@@ -30,9 +30,9 @@ use Rattle.types.specs.declared.AtomAnswer.{AtomAnswer}
 use Rattle.types.specs.declared.AtomAnswer.the-variants as A
 use Rattle.header.specs.Header.{headerRead}
 use Rattle.reader.specs.Strings.{stringAnswer, stringScratch}
-use Rattle.integer.specs.Integers.{integerFrom}
-use Rattle.float.specs.Floats.{floatFrom}
-use Rattle.atom.specs.Charges.{countOf, numberCharge, budgetAfter}
+use Rattle.integer.specs.Integers.{integerBody}
+use Rattle.float.specs.Floats.{floatBody}
+use Rattle.atom.specs.Charges.{budgetAfter}
 
 -- an atom of a kind, an argument and what it holds
 abbrev pub atomOf : Kind → ℕ → Nucleus → Atom
@@ -48,17 +48,19 @@ specialNucleus S.Named = N.Named
 specialNucleus S.DynamicMap = N.DynamicMap
 specialNucleus S.DynamicEnd = N.DynamicEnd
 
--- "3 UnknownSpecial(value): past header; unchanged"
-abbrev pub specialAtom : ℕ → Place → Budget → SpecialAnswer → AtomAnswer
-specialAtom arg next budget (SA.Known special) = A.Read next budget (atomOf K.Special arg (specialNucleus special))
-specialAtom arg next budget (SA.Refused r) = A.Refused next budget r
-
 -- "5 TooManyBytesRead: past header; unchanged"; else what follows, with the budget that is left
 abbrev pub charged : Place → Budget → BudgetAnswer → (Budget → AtomAnswer) → AtomAnswer
 charged next budget (BA.Left rest) body = body rest
 charged next budget (BA.Refused r) body = A.Refused next budget r
 
--- a number's body: "6 UnsupportedByteCount: past header; charged", "4 Eof: end of slice; charged if a body was being read"
+-- "special known, or budget, then count allowed": the charge first, which a special has none of, then whether the atom is known.
+-- "3 UnknownSpecial: past header; unchanged", "6 UnsupportedByteCount: past header; charged"; else the body, with the budget left
+unfoldable pub judged : Kind → ℕ → Place → Budget → (Budget → AtomAnswer) → AtomAnswer
+judged kind arg next budget body =
+    charged next budget (budgetAfter budget (chargeOf kind arg))
+    (λ rest. pick (known kind arg) (body rest) (A.Refused next rest (unknown kind arg)))
+
+-- a number's body, of an allowed count: "4 Eof: end of slice; charged if a body was being read"
 abbrev pub integerAtom : Kind → ℕ → Budget → IntegerAnswer → AtomAnswer
 integerAtom kind arg rest (IA.Read place value) = A.Read place rest (atomOf kind arg (N.Integer value))
 integerAtom kind arg rest (IA.Refused place r) = A.Refused place rest r
@@ -72,33 +74,39 @@ abbrev pub bytesAtom : ℕ → Budget → BytesAnswer → AtomAnswer
 bytesAtom arg rest (B.Read place mark) = A.Read place rest (atomOf K.Bytes arg (N.Bytes mark))
 bytesAtom arg rest (B.Refused place r) = A.Refused place rest r
 
--- "Int, UInt and Float: the byte count", charged before it is judged
-unfoldable pub integerAfter : Way → List ℕ → Kind → ℕ → Place → Budget → AtomAnswer
-integerAfter way source kind arg next budget =
-    charged next budget (budgetAfter budget (numberCharge (countOf arg)))
-    (λ rest. integerAtom kind arg rest (integerFrom way source (next .0) kind (countOf arg)))
+-- what is taken of each, with the budget that is left: an atom of its header only, and the bodies
+abbrev pub headerTaken : Kind → ℕ → Place → Nucleus → Budget → AtomAnswer
+headerTaken kind arg next nucleus rest = A.Read next rest (atomOf kind arg nucleus)
 
-unfoldable pub floatAfter : Way → List ℕ → ℕ → Place → Budget → AtomAnswer
-floatAfter way source arg next budget =
-    charged next budget (budgetAfter budget (numberCharge (countOf arg)))
-    (λ rest. floatAtom arg rest (floatFrom way source (next .0) K.Float (countOf arg)))
+abbrev pub specialTaken : ℕ → Place → Budget → AtomAnswer
+specialTaken arg next = headerTaken K.Special arg next (specialNucleus (specialKnown (specialFrom arg)))
 
--- "Bytes: the string's length."
-unfoldable pub bytesAfter : Way → List ℕ → ℕ → Place → Budget → List ℕ → AtomAnswer
-bytesAfter way source arg next budget scratch =
-    charged next budget (budgetAfter budget arg)
-    (λ rest. bytesAtom arg rest (stringAnswer way source (next .0) arg scratch))
+abbrev pub integerTaken : Way → List ℕ → Kind → ℕ → Place → Budget → AtomAnswer
+integerTaken way source kind arg next rest =
+    integerAtom kind arg rest (integerBody way source (next .0) kind (bodyLength kind arg))
 
--- what follows a header, by its kind; "Others: nothing."
+abbrev pub floatTaken : Way → List ℕ → ℕ → Place → Budget → AtomAnswer
+floatTaken way source arg next rest = floatAtom arg rest (floatBody way source (next .0) (bodyLength K.Float arg))
+
+abbrev pub bytesTaken : Way → List ℕ → ℕ → Place → List ℕ → Budget → AtomAnswer
+bytesTaken way source arg next scratch rest =
+    bytesAtom arg rest (stringAnswer way source (next .0) (bodyLength K.Bytes arg) scratch)
+
+-- "then end of input, then scratch room": what is taken of an atom that is known and paid for, by its kind
+abbrev pub bodyTaken : Way → List ℕ → Kind → ℕ → Place → List ℕ → Budget → AtomAnswer
+bodyTaken way source K.Special arg next scratch = specialTaken arg next
+bodyTaken way source K.Int arg next scratch = integerTaken way source K.Int arg next
+bodyTaken way source K.UInt arg next scratch = integerTaken way source K.UInt arg next
+bodyTaken way source K.Float arg next scratch = floatTaken way source arg next
+bodyTaken way source K.Sequence arg next scratch = headerTaken K.Sequence arg next N.None
+bodyTaken way source K.Map arg next scratch = headerTaken K.Map arg next N.None
+bodyTaken way source K.Symbol arg next scratch = headerTaken K.Symbol arg next N.None
+bodyTaken way source K.Bytes arg next scratch = bytesTaken way source arg next scratch
+
+-- what follows a header, in that order
 abbrev pub atomAfter : Way → List ℕ → Kind → ℕ → Place → Budget → List ℕ → AtomAnswer
-atomAfter way source K.Special arg next budget scratch = specialAtom arg next budget (specialFrom arg)
-atomAfter way source K.Int arg next budget scratch = integerAfter way source K.Int arg next budget
-atomAfter way source K.UInt arg next budget scratch = integerAfter way source K.UInt arg next budget
-atomAfter way source K.Float arg next budget scratch = floatAfter way source arg next budget
-atomAfter way source K.Sequence arg next budget scratch = A.Read next budget (atomOf K.Sequence arg N.None)
-atomAfter way source K.Map arg next budget scratch = A.Read next budget (atomOf K.Map arg N.None)
-atomAfter way source K.Symbol arg next budget scratch = A.Read next budget (atomOf K.Symbol arg N.None)
-atomAfter way source K.Bytes arg next budget scratch = bytesAfter way source arg next budget scratch
+atomAfter way source kind arg next budget scratch =
+    judged kind arg next budget (bodyTaken way source kind arg next scratch)
 
 -- an atom whose header was read; "4 Eof" of the header leaves the budget
 abbrev pub atomFrom : Way → List ℕ → Budget → List ℕ → HeaderAnswer → AtomAnswer
@@ -115,14 +123,10 @@ scratchCharged way source place arg scratch (BA.Left rest) = stringScratch way s
 scratchCharged way source place arg scratch (BA.Refused r) = scratch
 
 abbrev pub scratchAfter : Way → List ℕ → Kind → ℕ → Place → Budget → List ℕ → List ℕ
-scratchAfter way source K.Special arg next budget scratch = scratch
-scratchAfter way source K.Int arg next budget scratch = scratch
-scratchAfter way source K.UInt arg next budget scratch = scratch
-scratchAfter way source K.Float arg next budget scratch = scratch
-scratchAfter way source K.Sequence arg next budget scratch = scratch
-scratchAfter way source K.Map arg next budget scratch = scratch
-scratchAfter way source K.Symbol arg next budget scratch = scratch
-scratchAfter way source K.Bytes arg next budget scratch = scratchCharged way source (next .0) arg scratch (budgetAfter budget arg)
+scratchAfter way source kind arg next budget scratch =
+    pick (isString kind)
+    (scratchCharged way source (next .0) arg scratch (budgetAfter budget (chargeOf kind arg)))
+    scratch
 
 abbrev pub scratchFrom : Way → List ℕ → Budget → List ℕ → HeaderAnswer → List ℕ
 scratchFrom way source budget scratch (H.Read next kind arg) = scratchAfter way source kind arg next budget scratch

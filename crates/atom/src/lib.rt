@@ -5,14 +5,15 @@ ghost use mathlib.Core.Bool.{true};
 ghost use mathlib.Core.List.{[]};
 ghost use Prim.Native.Nat.{_≤_, _<_, _+_, _-_, _^_};
 ghost use lib.ListN.{length};
-ghost use Rattle.types.specs.Kinds.{specialFrom};
 ghost use Rattle.types.specs.Ways.{unnamedWay};
+ghost use Rattle.types.specs.Forms.{countOf, numberCharge};
 ghost use Rattle.types.specs.declared.Kind.the-variants as K;
 ghost use Rattle.types.specs.declared.Nucleus.the-variants as N;
 ghost use Rattle.integer.specs.Integers.{integerKind};
 ghost use Rattle.float.specs.Floats.{floatOf};
-ghost use Rattle.atom.specs.Charges.{countOf, numberCharge, budgetAfter};
-ghost use Rattle.atom.specs.Atoms.{atomOf, specialNucleus, specialAtom, integerAfter, floatAfter, bytesAfter, scratchCharged, atomAfter, scratchAfter, atomRead, atomScratch};
+ghost use Rattle.atom.specs.Charges.{budgetAfter};
+ghost use Rattle.atom.specs.Atoms.{atomOf, specialNucleus, judged, specialTaken, integerTaken, floatTaken};
+ghost use Rattle.atom.specs.Atoms.{bytesTaken, atomAfter, scratchAfter, atomRead, atomScratch};
 use types::Atom;
 use types::AtomAnswer;
 use types::Budget;
@@ -109,7 +110,7 @@ fn bytes_atom(arg: u64, mark: Mark) -> Atom
 
 // A special, once its header is read.
 fn read_special(arg: u64, next: Place, budget: Budget) -> AtomAnswer
-    ensures { λ r. ⌜ r ≡ specialAtom arg next budget (specialFrom arg) ⌝ }
+    ensures { λ r. ⌜ r ≡ judged K.Special arg next budget (specialTaken arg next) ⌝ }
 {
     match Special::try_from(arg) {
         SpecialAnswer::Known(special) => {
@@ -133,7 +134,7 @@ fn read_integer(
     way: Way,
 ) -> AtomAnswer
     requires { ⌜ (next .0 ≤ length (now source)) × (integerKind kind ≡ true) ⌝ }
-    ensures { λ r. ⌜ r ≡ integerAfter way (now (source .entry)) kind arg next budget ⌝ }
+    ensures { λ r. ⌜ r ≡ judged kind arg next budget (integerTaken way (now (source .entry)) kind arg next) ⌝ }
 {
     let bytes = count_of(arg);
     let BudgetAnswer::Left(rest) = update_budget(budget, in_memory_int_size(bytes)) else {
@@ -152,13 +153,13 @@ fn read_integer(
         let value = integer::filled_integer(kind, source, at, bytes);
         return AtomAnswer::Read(Place(source.len()), rest, integer_atom(kind, arg, value));
     }
-    AtomAnswer::Refused(next, rest, Refusal::UnsupportedByteCount(kind, bytes))
+    AtomAnswer::Refused(next, rest, Refusal::unsupported(kind, bytes))
 }
 
 // A float, once its header is read. Its stored bits stand beside its value.
 fn read_float(source: &[u8], arg: u64, next: Place, budget: Budget, way: Way) -> AtomAnswer
     requires { ⌜ next .0 ≤ length (now source) ⌝ }
-    ensures { λ r. ⌜ r ≡ floatAfter way (now (source .entry)) arg next budget ⌝ }
+    ensures { λ r. ⌜ r ≡ judged K.Float arg next budget (floatTaken way (now (source .entry)) arg next) ⌝ }
 {
     let bytes = count_of(arg);
     let BudgetAnswer::Left(rest) = update_budget(budget, in_memory_int_size(bytes)) else {
@@ -177,11 +178,7 @@ fn read_float(source: &[u8], arg: u64, next: Place, budget: Budget, way: Way) ->
         let bits = float::filled_bits(source, at, bytes);
         return AtomAnswer::Read(Place(source.len()), rest, float_atom(arg, bytes, bits));
     }
-    AtomAnswer::Refused(
-        next,
-        rest,
-        Refusal::UnsupportedByteCount(Kind::Float, bytes),
-    )
+    AtomAnswer::Refused(next, rest, Refusal::unsupported(Kind::Float, bytes))
 }
 
 // A string, once its header is read: lent as a part of the source, or copied into scratch.
@@ -193,8 +190,8 @@ fn read_bytes(
     scratch: &mut [u8],
     way: Way,
 ) -> AtomAnswer
-    ensures { λ r. ⌜ r ≡ bytesAfter way (now (source .entry)) arg next budget (now (scratch .entry)) ⌝ }
-    ensures { λ r. ⌜ now (scratch .exit) ≡ scratchCharged way (now (source .entry)) (next .0) arg (now (scratch .entry)) (budgetAfter budget arg) ⌝ }
+    ensures { λ r. ⌜ r ≡ judged K.Bytes arg next budget (bytesTaken way (now (source .entry)) arg next (now (scratch .entry))) ⌝ }
+    ensures { λ r. ⌜ now (scratch .exit) ≡ scratchAfter way (now (source .entry)) K.Bytes arg next budget (now (scratch .entry)) ⌝ }
 {
     let BudgetAnswer::Left(rest) = update_budget(budget, arg) else {
         return AtomAnswer::Refused(next, budget, Refusal::TooManyBytesRead);

@@ -3,18 +3,18 @@ use mathlib.Core.Path.{_≡_, refl}
 use mathlib.Core.Bool.{true, false}
 use Prim.Native.Nat.{_^_}
 use Rattle.binary.specs.Formats.{half, single, double, finite, smallests, meaning}
-use Rattle.binary.specs.Conversions.{packed, widened, exact, lost, narrowed}
+use Rattle.binary.specs.Conversions.{packed, widened, kept, lost, narrowed}
 use lib.Ieee.{span, climb, size}
 
 -- 65504, the largest binary16 value; 65520; 2 ^ -24 and 2 ^ -25; -0; -infinity; a signalling NaN
 pub edges :
-    (narrowed single half 0x477F_E000 ≡ exact 0x7BFF)
+    (narrowed single half 0x477F_E000 ≡ kept 0x7BFF)
     × (narrowed single half 0x477F_F000 ≡ lost)
-    × (narrowed single half 0x3380_0000 ≡ exact 1)
+    × (narrowed single half 0x3380_0000 ≡ kept 1)
     × (narrowed single half 0x3300_0000 ≡ lost)
-    × (narrowed single half 0x8000_0000 ≡ exact 0x8000)
-    × (narrowed double single 0xFFF0_0000_0000_0000 ≡ exact 0xFF80_0000)
-    × (narrowed double single 0x36A0_0000_0000_0000 ≡ exact 1)
+    × (narrowed single half 0x8000_0000 ≡ kept 0x8000)
+    × (narrowed double single 0xFFF0_0000_0000_0000 ≡ kept 0xFF80_0000)
+    × (narrowed double single 0x36A0_0000_0000_0000 ≡ kept 1)
     × (narrowed single half 0x7F80_2000 ≡ lost)
     × (widened half single 1 ≡ 0x3380_0000)
     × (widened half single 0xFC01 ≡ 0xFFC0_2000)

@@ -3,12 +3,15 @@
 use mathlib.Core.Path.{_≡_, refl, _∙_, sym, ap}
 use mathlib.Core.Bool.{Bool, true, false, false≢true}
 use mathlib.Core.List.{List, []}
-use Prim.Native.Nat.{ℕ, zero, suc, _+_, _-_, _≤_, _<_}
+use Prim.Native.Nat.{ℕ, _+_, _-_, _≤_, _<_}
 use native.Mathlib.Omega.{arith}
 use lib.Dec.{ltb, leb}
 use lib.ListN.{length}
 use borrow.Author.Tests.{lt-ltb, le-ltb, le-leb, lt-leb, ltb-true, ltb-false, leb-true, leb-false}
-use Rattle.types.proofs.Specials.{special-unknown}
+use Rattle.types.specs.Forms.{countOf, known, bodyLength, chargeOf, isString}
+use Rattle.types.specs.Choice.{pick}
+use Rattle.types.specs.Kinds.{specialFrom}
+use Rattle.types.proofs.Specials.{special-below, special-above}
 use Rattle.types.specs.declared.Way.the-variants as W
 use Rattle.types.specs.declared.Kind.{Kind}
 use Rattle.types.specs.declared.Kind.the-variants as K
@@ -16,15 +19,17 @@ use Rattle.types.specs.declared.Place.{Place}
 use Rattle.types.specs.declared.Budget.{Budget}
 use Rattle.types.specs.declared.Refusal.{Refusal}
 use Rattle.types.specs.declared.Refusal.the-variants as R
+use Rattle.types.specs.declared.Special.{Special}
 use Rattle.types.specs.declared.SpecialAnswer.{SpecialAnswer}
+use Rattle.types.specs.declared.SpecialAnswer.the-variants as SA
 use Rattle.types.specs.declared.HeaderAnswer.the-variants as H
+use Rattle.types.specs.declared.AtomAnswer.{AtomAnswer}
+use Rattle.types.specs.declared.Skipped.{Skipped}
 use Rattle.types.specs.declared.Skipped.the-variants as SK
 use Rattle.reader.specs.Strings.{lentString}
-use Rattle.integer.specs.Integers.{integerKind, allowedCount, integerFrom, integerBody}
-use Rattle.float.specs.Floats.{allowedFloat, floatFrom, floatBody}
-use Rattle.atom.specs.Charges.{countOf, numberCharge}
-use Rattle.atom.specs.Atoms.{specialAtom, integerAfter, floatAfter, bytesAfter, atomAfter}
-use Rattle.dictionary.specs.Wholes.{known, bodyLength, chargeOf, isString}
+use Rattle.integer.specs.Integers.{integerBody}
+use Rattle.float.specs.Floats.{floatBody}
+use Rattle.atom.specs.Atoms.{judged, integerTaken, floatTaken, bytesTaken, bodyTaken, atomAfter}
 use Rattle.dictionary.specs.Steps.{forgotten, bodyPast, bodyAfter}
 
 -- the four ends of a body
@@ -64,96 +69,89 @@ module _ (size : ℕ) (kind : Kind) (arg at left : ℕ) where
       let b : left - 0 ≡ left = omega arith in
       rw (e, known-is, none, free, no-string) (simp (le-ltb left 0 (omega arith), a, b, le-leb at size within))
 
-  -- a special that is not
-  pub special-other : kind ≡ K.Special → 7 ≤ arg →
-      SK.Refused (record { 0 = at }) (record { 0 = left }) (R.UnknownSpecial arg) ≡ bodyAfter size kind arg at left
-  unfolding bodyPast
-  special-other e h =
-      let b : left - 0 ≡ left = omega arith in
-      rw (e, le-ltb arg 7 h) (simp (le-ltb left 0 (omega arith), b))
+  -- a special, by what its argument answers
+  module _ (k : kind ≡ K.Special) (got : SpecialAnswer) (g : got ≡ specialFrom arg) where
+    pub special-past : (special : Special) → got ≡ SA.Known special → at ≤ size →
+        SK.Past (record { 0 = at }) (record { 0 = left }) (record { 0 = at }) false ≡ bodyAfter size kind arg at left
+    special-past special e within =
+        header-only K.Special k (special-below arg special (sym g ∙ e)) refl refl refl within
+
+    pub special-other : (why : Refusal) → got ≡ SA.Refused why →
+        SK.Refused (record { 0 = at }) (record { 0 = left }) why ≡ bodyAfter size kind arg at left
+    unfolding bodyPast
+    special-other why e =
+        let above = special-above arg why (sym g ∙ e) in
+        let b : left - 0 ≡ left = omega arith in
+        rw (k, above .1, above .0) (simp (le-ltb left 0 (omega arith), b))
 
 module _ (s : List ℕ) (arg : ℕ) (next : Place) (budget : Budget) where
-  -- a special
-  special-known : (n : ℕ) → n < 7 →
-      forgotten (H.Read next K.Special n) (atomAfter W.ExactLent s K.Special n next budget [])
-      ≡ SK.Past next budget next false
-  special-known zero h = refl
-  special-known (suc zero) h = refl
-  special-known (suc (suc zero)) h = refl
-  special-known (suc (suc (suc zero))) h = refl
-  special-known (suc (suc (suc (suc zero)))) h = refl
-  special-known (suc (suc (suc (suc (suc zero))))) h = refl
-  special-known (suc (suc (suc (suc (suc (suc zero)))))) h = refl
-  special-known (suc (suc (suc (suc (suc (suc (suc n))))))) h = absurd (none n h)
-    where
-      none : (n : ℕ) → suc (suc (suc (suc (suc (suc (suc n)))))) < 7 → ⊥
-      none n h = omega arith
+  -- what a body of so many bytes does, with the budget that is left
+  abbrev ended : Kind → Budget → Skipped
+  ended kind rest =
+      pick (leb (next .0 + bodyLength kind arg) (length s))
+      (SK.Past (record { 0 = next .0 + bodyLength kind arg }) rest next (isString kind))
+      (SK.Refused (record { 0 = length s }) rest R.Eof)
 
-  special-refused : 7 ≤ arg →
-      forgotten (H.Read next K.Special arg) (atomAfter W.ExactLent s K.Special arg next budget [])
-      ≡ SK.Refused next budget (R.UnknownSpecial arg)
-  special-refused k =
-      ap (λ (a : SpecialAnswer). forgotten (H.Read next K.Special arg) (specialAtom arg next budget a))
-      (special-unknown arg k)
+  module _ (rest : Budget) where
+    -- an atom of its header only
+    header-taken : (kind : Kind) → bodyLength kind arg ≡ 0 → isString kind ≡ false → next .0 ≤ length s →
+        SK.Past next rest next false ≡ ended kind rest
+    header-taken kind none no-string h =
+        let a : next .0 + 0 ≡ next .0 = omega arith in
+        rw (none, no-string) (simp (a, le-leb (next .0) (length s) h))
 
-  special-after : next .0 ≤ length s → (t : Bool) → ltb arg 7 ≡ t →
-      forgotten (H.Read next K.Special arg) (atomAfter W.ExactLent s K.Special arg next budget [])
-      ≡ bodyAfter (length s) K.Special arg (next .0) (budget .0)
-  special-after h true e =
-      special-known arg (ltb-true arg 7 e)
-      ∙ header-only (length s) K.Special arg (next .0) (budget .0) K.Special refl e refl refl refl h
-  special-after h false e =
-      special-refused (ltb-false arg 7 e)
-      ∙ special-other (length s) K.Special arg (next .0) (budget .0) refl (ltb-false arg 7 e)
+    -- a number, by the test that it passes
+    integer-taken : (kind : Kind) (v : Bool) → isString kind ≡ false →
+        leb (next .0 + bodyLength kind arg) (length s) ≡ v →
+        forgotten (H.Read next kind arg) (integerTaken W.ExactLent s kind arg next rest) ≡ ended kind rest
+    unfolding integerBody
+    integer-taken kind true i c = simp (i, c)
+    integer-taken kind false i c = simp (i, c)
 
-  -- a number, by the tests that it passes
-  integer-after : (kind : Kind) → integerKind kind ≡ true → (t u v : Bool) →
-      ltb (budget .0) (numberCharge (countOf arg)) ≡ t → allowedCount (countOf arg) ≡ u →
-      leb (next .0 + countOf arg) (length s) ≡ v →
-      forgotten (H.Read next kind arg) (integerAfter W.ExactLent s kind arg next budget)
-      ≡ bodyPast (length s) (next .0) (budget .0) (isString kind) (countOf arg) (numberCharge (countOf arg))
-      (allowedCount (countOf arg)) (R.UnsupportedByteCount kind (countOf arg))
-  unfolding integerAfter integerFrom integerBody bodyPast
-  integer-after kind k true u v a b c = simp a
-  integer-after kind k false false v a b c = simp (a, k, b)
-  integer-after kind k false true true a b c = simp (a, k, b, c)
-  integer-after kind k false true false a b c = simp (a, k, b, c)
+    float-taken : (v : Bool) → leb (next .0 + countOf arg) (length s) ≡ v →
+        forgotten (H.Read next K.Float arg) (floatTaken W.ExactLent s arg next rest) ≡ ended K.Float rest
+    unfolding floatBody
+    float-taken true c = simp c
+    float-taken false c = simp c
 
-  float-after : (t u v : Bool) → ltb (budget .0) (numberCharge (countOf arg)) ≡ t → allowedFloat (countOf arg) ≡ u →
-      leb (next .0 + countOf arg) (length s) ≡ v →
-      forgotten (H.Read next K.Float arg) (floatAfter W.ExactLent s arg next budget)
-      ≡ bodyAfter (length s) K.Float arg (next .0) (budget .0)
-  unfolding floatAfter floatFrom floatBody bodyPast
-  float-after true u v a b c = simp a
-  float-after false false v a b c = simp (a, b)
-  float-after false true true a b c = simp (a, b, c)
-  float-after false true false a b c = simp (a, b, c)
+    -- a string
+    string-taken : next .0 ≤ length s → (v : Bool) → leb (next .0 + arg) (length s) ≡ v →
+        forgotten (H.Read next K.Bytes arg) (bytesTaken W.ExactLent s arg next [] rest) ≡ ended K.Bytes rest
+    unfolding lentString
+    string-taken h true c =
+        simp
+        (c, le-ltb (length s) (next .0) h, le-ltb (length s) (next .0 + arg) (leb-true (next .0 + arg) (length s) c))
+    string-taken h false c =
+        simp
+        (c, le-ltb (length s) (next .0) h, lt-ltb (length s) (next .0 + arg) (leb-false (next .0 + arg) (length s) c))
 
-  -- a string
-  string-after : next .0 ≤ length s → (t v : Bool) → ltb (budget .0) arg ≡ t → leb (next .0 + arg) (length s) ≡ v →
-      forgotten (H.Read next K.Bytes arg) (bytesAfter W.ExactLent s arg next budget [])
-      ≡ bodyAfter (length s) K.Bytes arg (next .0) (budget .0)
-  unfolding bytesAfter lentString bodyPast
-  string-after h true v a c = simp a
-  string-after h false true a c =
-      simp
-      (a, c, le-ltb (length s) (next .0) h, le-ltb (length s) (next .0 + arg) (leb-true (next .0 + arg) (length s) c))
-  string-after h false false a c =
-      simp
-      (a, c, le-ltb (length s) (next .0) h, lt-ltb (length s) (next .0 + arg) (leb-false (next .0 + arg) (length s) c))
+    taken-after : (kind : Kind) → next .0 ≤ length s →
+        forgotten (H.Read next kind arg) (bodyTaken W.ExactLent s kind arg next [] rest) ≡ ended kind rest
+    taken-after K.Special h = header-taken K.Special refl refl h
+    taken-after K.Int h = integer-taken K.Int _ refl refl
+    taken-after K.UInt h = integer-taken K.UInt _ refl refl
+    taken-after K.Float h = float-taken _ refl
+    taken-after K.Sequence h = header-taken K.Sequence refl refl h
+    taken-after K.Map h = header-taken K.Map refl refl h
+    taken-after K.Symbol h = header-taken K.Symbol refl refl h
+    taken-after K.Bytes h = string-taken h _ refl
+
+  -- the charge first, and then whether the atom is known
+  judged-after : (kind : Kind) (body : Budget → AtomAnswer) (t u : Bool) → ltb (budget .0) (chargeOf kind arg) ≡ t →
+      known kind arg ≡ u → ((rest : Budget) → forgotten (H.Read next kind arg) (body rest) ≡ ended kind rest) →
+      forgotten (H.Read next kind arg) (judged kind arg next budget body)
+      ≡ bodyAfter (length s) kind arg (next .0) (budget .0)
+  unfolding judged bodyPast
+  judged-after kind body true u a b f = simp a
+  judged-after kind body false false a b f = simp (a, b)
+  judged-after kind body false true a b f = rw (a, b) (f (record { 0 = budget .0 - chargeOf kind arg }))
 
   -- EVERY KIND: what `read_atom` does after a header, with the value forgotten
   pub after-header : (kind : Kind) → next .0 ≤ length s →
       forgotten (H.Read next kind arg) (atomAfter W.ExactLent s kind arg next budget [])
       ≡ bodyAfter (length s) kind arg (next .0) (budget .0)
-  after-header K.Special h = special-after h _ refl
-  after-header K.Int h = integer-after K.Int refl _ _ _ refl refl refl
-  after-header K.UInt h = integer-after K.UInt refl _ _ _ refl refl refl
-  after-header K.Float h = float-after _ _ _ refl refl refl
-  after-header K.Sequence h = header-only (length s) K.Sequence arg (next .0) _ K.Sequence refl refl refl refl refl h
-  after-header K.Map h = header-only (length s) K.Map arg (next .0) _ K.Map refl refl refl refl refl h
-  after-header K.Symbol h = header-only (length s) K.Symbol arg (next .0) _ K.Symbol refl refl refl refl refl h
-  after-header K.Bytes h = string-after h _ _ refl refl
+  after-header kind h =
+      judged-after kind (bodyTaken W.ExactLent s kind arg next []) _ _ refl refl (λ rest. taken-after rest kind h)
 
 -- a body that was passed: its charge was within the budget, it is known and whole
 pub record Passed (size at left : ℕ) (string : Bool) (len charge : ℕ) (allowed : Bool) (place rest body : ℕ) (t : Bool)

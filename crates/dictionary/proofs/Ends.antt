@@ -9,6 +9,7 @@ use borrow.Author.Tests.{lt-ltb}
 use lib.ListN.{length}
 use types.Run.{OneOf, miss}
 use denote.Enum.Declared.{tagOf}
+use Rattle.types.specs.Forms.{allowedCount, allowedFloat, countOf, numberCharge, unsupported}
 use Rattle.types.proofs.Kind.{the-type}
 use Rattle.types.specs.declared.Way.the-variants as W
 use Rattle.types.specs.declared.Kind.{Kind}
@@ -25,12 +26,9 @@ use Rattle.header.specs.Header.{headerRead}
 use Rattle.header.proofs.Places.{headerPlace, header-place}
 use Rattle.reader.specs.Strings.{startOf}
 use Rattle.reader.proofs.Strings.{start-within}
-use Rattle.integer.specs.Integers.{allowedCount}
-use Rattle.float.specs.Floats.{allowedFloat}
-use Rattle.atom.specs.Charges.{countOf, numberCharge}
 use Rattle.atom.specs.Atoms.{atomRead}
 use Rattle.dictionary.specs.Steps.{skipped, bodyPast, bodyAfter}
-use Rattle.dictionary.proofs.Bodies.{past-over, past-unknown, past-eof, past-whole, header-only, special-other}
+use Rattle.dictionary.proofs.Bodies.{past-over, past-unknown, past-eof, past-whole, header-only, special-past, special-other}
 use Rattle.dictionary.proofs.Bodies.{after-header}
 
 -- a body whose charge is known: the charge exceeds the budget
@@ -43,10 +41,10 @@ module _ (size at left : ℕ) (string : Bool) (len price charge : ℕ) (allowed 
 
   module _ (paid : charge ≤ left) where
     -- it does not, and the atom is not known
-    pub body-unknown : allowed ≡ false →
-        SK.Refused (record { 0 = at }) (record { 0 = left - charge }) why
+    pub body-unknown : (refusal : Refusal) → refusal ≡ why → allowed ≡ false →
+        SK.Refused (record { 0 = at }) (record { 0 = left - charge }) refusal
         ≡ bodyPast size at left string len price allowed why
-    body-unknown f = cc (past-unknown size at left string len charge why paid)
+    body-unknown refusal w f = cc (past-unknown size at left string len charge why paid)
 
     -- it is: its bytes are cut, or whole
     module _ (k : allowed ≡ true) (within : at ≤ size) where
@@ -65,7 +63,7 @@ pub ruleset body-ends = (body-over-budget, body-unknown, body-cut, body-whole, n
 -- Int and UInt, by the tag that led there
 integral : (size at left : ℕ) (kind : Kind) (arg : ℕ) → OneOf (1 ∷ 2 ∷ []) (tagOf the-type kind) →
     bodyPast size at left false (countOf arg) (numberCharge (countOf arg)) (allowedCount (countOf arg))
-    (R.UnsupportedByteCount kind (countOf arg))
+    (unsupported kind (countOf arg))
     ≡ bodyAfter size kind arg at left
 integral size at left K.Int arg h = refl
 integral size at left K.UInt arg h = refl
@@ -79,7 +77,7 @@ integral size at left K.Bytes arg h = absurd (miss (1 ∷ 2 ∷ []) 7 tt h)
 -- a body of bytes, by its header's kind: what `skip_number` and `skip_bytes` answer of it
 module _ (size : ℕ) (kind : Kind) (arg at left : ℕ) (r : Skipped) where
   module _ (count : ℕ) (allowed : Bool) (counted : count ≡ countOf arg)
-      (e : r ≡ bodyPast size at left false count (numberCharge count) allowed (R.UnsupportedByteCount kind count)) where
+      (e : r ≡ bodyPast size at left false count (numberCharge count) allowed (unsupported kind count)) where
     pub integer-body : OneOf (1 ∷ 2 ∷ []) (tagOf the-type kind) → allowed ≡ allowedCount count →
         r ≡ bodyAfter size kind arg at left
     integer-body k a = cc (integral size at left kind arg k)
@@ -91,7 +89,7 @@ module _ (size : ℕ) (kind : Kind) (arg at left : ℕ) (r : Skipped) where
       r ≡ bodyAfter size kind arg at left
   string-body k e = rw k e
 
-pub ruleset kind-ends = (header-only, special-other, integer-body, float-body, string-body, lt-ltb, needs)
+pub ruleset kind-ends = (header-only, special-past, special-other, integer-body, float-body, string-body, lt-ltb, needs)
 
 -- an atom, once its header is read
 module _ (s : List ℕ) (place : ℕ) (budget : Budget) (header : HeaderAnswer)

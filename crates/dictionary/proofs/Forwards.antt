@@ -3,6 +3,7 @@ use mathlib.Core.Path.{_≡_, ap}
 use mathlib.Core.Bool.{Bool, false}
 use mathlib.Core.List.{List, []}
 use Prim.Native.Nat.{ℕ}
+use Rattle.types.specs.Forms.{isString}
 use Rattle.types.specs.declared.Way.the-variants as W
 use Rattle.types.specs.declared.Place.{Place}
 use Rattle.types.specs.declared.Budget.{Budget}
@@ -12,7 +13,6 @@ use Rattle.types.specs.declared.HeaderAnswer.the-variants as H
 use Rattle.types.specs.declared.AtomAnswer.the-variants as A
 use Rattle.header.specs.Header.{headerRead}
 use Rattle.atom.specs.Atoms.{atomRead}
-use Rattle.dictionary.specs.Wholes.{isString}
 use Rattle.dictionary.specs.Steps.{forgotten, skipped}
 use Rattle.dictionary.proofs.Steps.{Past}
 

@@ -11,6 +11,7 @@ use lib.Dec.{ltb, leb}
 use lib.ListN.{length, take, drop, length-append, length-drop, take-append-drop}
 use lib.Seq.{drop-append-seam, length-take-le}
 use borrow.Author.Tests.{le-ltb, ltb-true, ltb-false, leb-true, leb-false}
+use Rattle.types.specs.Forms.{known, chargeOf, unknown}
 use Rattle.types.specs.declared.Place.{Place}
 use Rattle.types.specs.declared.Refusal.{Refusal}
 use Rattle.types.specs.declared.Refusal.the-variants as R
@@ -21,7 +22,7 @@ use Rattle.header.specs.Header.{headerKind, headerArgument, headerLength}
 use Rattle.types.specs.declared.Kind.{Kind}
 use Rattle.types.specs.declared.Kind.the-variants as K
 use Rattle.header.proofs.Fewest.{length-bounds}
-use Rattle.dictionary.specs.Wholes.{known, chargeOf, unknown, IsAtom, price, bodyBytes, lettersIn, Atoms, none}
+use Rattle.dictionary.specs.Wholes.{IsAtom, price, bodyBytes, lettersIn, Atoms, none}
 use Rattle.dictionary.specs.Wholes.{more, total, Spoilt, cut-header, not-known, cut-body}
 use Rattle.dictionary.specs.Prices.{priced, Passing, Barred, over-budget, Made, Broken}
 use Rattle.dictionary.specs.Runs.{runFrom, runAll, tallied, tallyFrom, tallyAll, nothing, mostBytes, unlimited}

@@ -10,14 +10,11 @@ use lib.Seq.{drop-cons}
 use borrow.Author.Needs.{needs}
 use borrow.Author.Tests.{le-leb, lt-leb}
 use Rattle.types.specs.Kinds.{kindFrom, kindKnown}
+use Rattle.types.specs.Forms.{listed, allowedCount, countOf, numberCharge, known, bodyLength, chargeOf, isString, unknown}
 use Rattle.types.specs.declared.Kind.{Kind}
 use Rattle.types.specs.declared.Kind.the-variants as K
-use Rattle.little.specs.Counts.{listed}
-use Rattle.integer.specs.Integers.{allowedCount}
 use Rattle.header.specs.Header.{moreFollow, headerKind, headerArgument, headerLength}
 use Rattle.header.proofs.Answers.{one-length, one-argument}
-use Rattle.atom.specs.Charges.{countOf, numberCharge}
-use Rattle.dictionary.specs.Wholes.{known, bodyLength, chargeOf, isString, unknown}
 use Rattle.dictionary.specs.Steps.{skipped, bodyAfter, ShortPast}
 use Rattle.dictionary.proofs.Bodies.{past-whole}
 use Rattle.dictionary.proofs.Steps.{step-body}

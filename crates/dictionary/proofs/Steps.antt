@@ -9,6 +9,7 @@ use lib.Dec.{leb, eqb}
 use lib.ListN.{length, drop}
 use borrow.Author.Tests.{le-ltb, le-leb, lt-leb, leb-true, leb-false, eqb-true}
 use Rattle.types.specs.Choice.{pick}
+use Rattle.types.specs.Forms.{countOf, numberCharge, bodyLength, chargeOf}
 use Rattle.types.specs.declared.Way.the-variants as W
 use Rattle.types.specs.declared.Kind.{Kind}
 use Rattle.types.specs.declared.Kind.the-variants as K
@@ -21,9 +22,7 @@ use Rattle.types.specs.declared.Skipped.{Skipped}
 use Rattle.types.specs.declared.Skipped.the-variants as SK
 use Rattle.header.specs.Header.{headerFrom, headerRead, headerKind, headerArgument, headerLength}
 use Rattle.header.proofs.Fewest.{length-bounds}
-use Rattle.atom.specs.Charges.{countOf, numberCharge}
 use Rattle.atom.specs.Atoms.{atomRead, atomFrom}
-use Rattle.dictionary.specs.Wholes.{bodyLength, chargeOf}
 use Rattle.dictionary.specs.Steps.{forgotten, skipped, bodyAfter}
 use Rattle.dictionary.specs.Runs.{unlimited}
 use Rattle.dictionary.proofs.Bodies.{after-header, Passed, passed}

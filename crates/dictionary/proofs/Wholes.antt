@@ -10,6 +10,7 @@ use lib.Dec.{ltb}
 use lib.ListN.{length, take, drop, length-append, length-drop}
 use lib.Seq.{drop-drop, drop-append-seam, drop-append-le, take-at}
 use Rattle.types.specs.Choice.{pick}
+use Rattle.types.specs.Forms.{known, isString, unknown}
 use Rattle.types.specs.declared.Kind.{Kind}
 use Rattle.types.specs.declared.Budget.{Budget}
 use Rattle.types.specs.declared.Refusal.{Refusal}
@@ -19,11 +20,11 @@ use Rattle.types.specs.declared.Tallied.{Tallied}
 use Rattle.header.specs.Header.{headerKind, headerArgument, headerLength}
 use Rattle.header.proofs.Fewest.{length-bounds, argument-word}
 use Rattle.dictionary.specs.Letters.{letters}
-use Rattle.dictionary.specs.Wholes.{known, isString, unknown, IsAtom, price, bodyBytes, lettersIn, Spoilt}
+use Rattle.dictionary.specs.Wholes.{IsAtom, price, bodyBytes, lettersIn, Spoilt}
 use Rattle.dictionary.specs.Wholes.{cut-header, not-known, cut-body}
 use Rattle.dictionary.specs.Prices.{asked, Barred, header-cut, over-budget, form-unknown, body-cut}
 use Rattle.dictionary.specs.Steps.{skipped, bodyPast, bodyAfter}
-use Rattle.dictionary.specs.Runs.{unlimited, added}
+use Rattle.dictionary.specs.Runs.{tallied, unlimited, added}
 use Rattle.dictionary.proofs.Bodies.{past-over, past-unknown, past-eof, past-whole}
 use Rattle.dictionary.proofs.Steps.{Past, step-cut, step-body, charge-word}
 use Rattle.dictionary.proofs.Fronts.{Front, front}
@@ -107,9 +108,6 @@ plus t atom = record {
   letters = t .letters + lettersIn atom;
 }
 
-abbrev counted : ℕ → ℕ → ℕ → ℕ → Tallied
-counted a b c l = record { atoms = a; body = record { 0 = b }; charge = c; letters = l }
-
 body-length : (at n h b : ℕ) → n ≡ h + b → at + n - (at + h) ≡ b
 body-length at n h b e = omega arith
 
@@ -134,15 +132,15 @@ module _ (s : List ℕ) (at : ℕ) (atom rest : List ℕ) (here : drop at s ≡ 
       added s t (at + length atom) (unlimited - price atom) (at + headerLength atom) (isString (headerKind atom))
       ≡ plus t atom
   added-plus t =
-      ap (λ (x : ℕ). counted (t .atoms + 1) (t .body .0 + x) (t .charge + (unlimited - (unlimited - price atom)))
+      ap (λ (x : ℕ). tallied (t .atoms + 1) (t .body .0 + x) (t .charge + (unlimited - (unlimited - price atom)))
       (t .letters + pick (isString (headerKind atom))
       (letters (take (at + length atom - (at + headerLength atom)) (drop (at + headerLength atom) s))) 0))
       (body-length at (length atom) (headerLength atom) (bodyBytes atom) (w .its-length))
-      ∙ ap (λ (x : ℕ). counted (t .atoms + 1) (t .body .0 + bodyBytes atom) (t .charge + x)
+      ∙ ap (λ (x : ℕ). tallied (t .atoms + 1) (t .body .0 + bodyBytes atom) (t .charge + x)
       (t .letters + pick (isString (headerKind atom))
       (letters (take (at + length atom - (at + headerLength atom)) (drop (at + headerLength atom) s))) 0))
       (spent (price atom) (price-word atom))
-      ∙ ap (λ (x : List ℕ). counted (t .atoms + 1) (t .body .0 + bodyBytes atom) (t .charge + price atom)
+      ∙ ap (λ (x : List ℕ). tallied (t .atoms + 1) (t .body .0 + bodyBytes atom) (t .charge + price atom)
       (t .letters + pick (isString (headerKind atom)) (letters x) 0)) body-bytes
 
 -- ---- bytes whose first atom is refused

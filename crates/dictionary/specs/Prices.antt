@@ -6,11 +6,12 @@ use mathlib.Core.List.{List, _∷_, _++_}
 use lib.Dec.{ltb}
 use lib.ListN.{length}
 use Rattle.types.specs.Choice.{pick}
+use Rattle.types.specs.Forms.{known, unknown}
 use Rattle.types.specs.declared.Refusal.{Refusal}
 use Rattle.types.specs.declared.Refusal.the-variants as R
 use Rattle.types.specs.declared.Tallied.{Tallied}
 use Rattle.header.specs.Header.{headerKind, headerArgument, headerLength}
-use Rattle.dictionary.specs.Wholes.{known, unknown, price, bodyBytes, lettersIn, Atoms, total, Spoilt}
+use Rattle.dictionary.specs.Wholes.{price, bodyBytes, lettersIn, Atoms, total, Spoilt}
 
 -- "It answers atoms, body bytes, charge and letters."
 abbrev pub priced : List (List ℕ) → Tallied

@@ -6,6 +6,7 @@ use mathlib.Core.List.{List, []}
 use lib.Dec.{ltb, leb}
 use lib.ListN.{getD}
 use Rattle.types.specs.Choice.{pick}
+use Rattle.types.specs.Forms.{known, bodyLength, chargeOf, isString, unknown}
 use Rattle.types.specs.declared.Way.the-variants as W
 use Rattle.types.specs.declared.Kind.{Kind}
 use Rattle.types.specs.declared.Budget.{Budget}
@@ -19,7 +20,6 @@ use Rattle.types.specs.declared.Skipped.{Skipped}
 use Rattle.types.specs.declared.Skipped.the-variants as SK
 use Rattle.header.specs.Header.{headerRead}
 use Rattle.atom.specs.Atoms.{atomRead}
-use Rattle.dictionary.specs.Wholes.{known, bodyLength, chargeOf, isString, unknown}
 
 -- an atom's read with the value forgotten: what is left is where its body starts, and whether it is a string. (No atom is
 -- read whose header was refused.)

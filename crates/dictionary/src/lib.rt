@@ -5,9 +5,9 @@ ghost use mathlib.Core.Bool.{true, false};
 ghost use Prim.Native.Nat.{_≤_, _<_, _+_, _-_};
 ghost use lib.ListN.{length, take, drop};
 ghost use Rattle.types.specs.Choice.{pick};
+ghost use Rattle.types.specs.Forms.{numberCharge, unsupported};
 ghost use Rattle.types.specs.declared.Refusal.the-variants as R;
 ghost use Rattle.types.specs.declared.TallyAnswer.the-variants as TA;
-ghost use Rattle.atom.specs.Charges.{numberCharge};
 ghost use Rattle.dictionary.specs.Letters.{letter, letters};
 ghost use Rattle.dictionary.specs.Steps.{skipped, bodyPast, bodyAfter, ShortPast};
 ghost use Rattle.dictionary.specs.Runs.{runAll, tallied, tallyAll};
@@ -19,6 +19,8 @@ use types::Place;
 use types::Ran;
 use types::Refusal;
 use types::Skipped;
+use types::Special;
+use types::SpecialAnswer;
 use types::Tallied;
 use types::TallyAnswer;
 use types::Way;
@@ -33,7 +35,7 @@ fn skip_number(
     left: u64,
 ) -> Skipped
     requires { ⌜ at ≤ length (now source) ⌝ }
-    ensures { λ r. ⌜ r ≡ bodyPast (length (now (source .entry))) at left false count (numberCharge count) allowed (R.UnsupportedByteCount kind count) ⌝ }
+    ensures { λ r. ⌜ r ≡ bodyPast (length (now (source .entry))) at left false count (numberCharge count) allowed (unsupported kind count) ⌝ }
 {
     let charge = atom::in_memory_int_size(count);
     if left < charge {
@@ -47,11 +49,7 @@ fn skip_number(
         }
         return Skipped::Past(Place(at + count as usize), Budget(rest), Place(at), false);
     }
-    return Skipped::Refused(
-        Place(at),
-        Budget(rest),
-        Refusal::UnsupportedByteCount(kind, count),
-    );
+    return Skipped::Refused(Place(at), Budget(rest), Refusal::unsupported(kind, count));
 }
 
 // A string's body.
@@ -79,12 +77,14 @@ fn skip_body(source: &[u8], kind: Kind, arg: u64, at: usize, left: u64) -> Skipp
         Kind::Sequence => return Skipped::Past(Place(at), Budget(left), Place(at), false),
         Kind::Map => return Skipped::Past(Place(at), Budget(left), Place(at), false),
         Kind::Symbol => return Skipped::Past(Place(at), Budget(left), Place(at), false),
-        Kind::Special => {
-            if arg < 7 {
+        Kind::Special => match Special::try_from(arg) {
+            SpecialAnswer::Known(_) => {
                 return Skipped::Past(Place(at), Budget(left), Place(at), false);
             }
-            return Skipped::Refused(Place(at), Budget(left), Refusal::UnknownSpecial(arg));
-        }
+            SpecialAnswer::Refused(refusal) => {
+                return Skipped::Refused(Place(at), Budget(left), refusal);
+            }
+        },
         Kind::Int | Kind::UInt => {
             let count = atom::count_of(arg);
             return skip_number(source, kind, count, integer::allowed(count), at, left);

@@ -7,6 +7,7 @@ use lib.ListN.{length}
 use borrow.Author.Tests.{eq-eqb}
 use Rattle.types.specs.Kinds.{kindCode}
 use Rattle.types.specs.Ways.{exact}
+use Rattle.types.specs.Forms.{allowedFloat, unsupported}
 use Rattle.types.specs.declared.Way.{Way}
 use Rattle.types.specs.declared.Kind.{Kind}
 use Rattle.types.specs.declared.Kind.the-variants as K
@@ -16,7 +17,7 @@ use Rattle.types.specs.declared.FloatAnswer.{FloatAnswer}
 use Rattle.types.specs.declared.FloatAnswer.the-variants as FA
 use Rattle.types.proofs.Ways.{up-to-within, up-to-filled}
 use Rattle.little.specs.Le.{numberAt}
-use Rattle.float.specs.Floats.{allowedFloat, floatOf, floatBody, floatFrom}
+use Rattle.float.specs.Floats.{floatOf, floatBody, floatFrom}
 
 -- a float's bytes: whole, and ended by the source in filled reading
 module _ (way : Way) (s : List ℕ) (at count : ℕ) where
@@ -43,7 +44,7 @@ module _ (way : Way) (s : List ℕ) (at count : ℕ) where
 
   -- the count is judged after the kind
   pub from-count : (kind : Kind) → kindCode kind ≡ 3 → allowedFloat count ≡ false →
-      FA.Refused (record { 0 = at }) (R.UnsupportedByteCount K.Float count) ≡ floatFrom way s at kind count
+      FA.Refused (record { 0 = at }) (unsupported K.Float count) ≡ floatFrom way s at kind count
   unfolding floatFrom
   from-count kind h a = simp (eq-eqb (kindCode kind) 3 h, a)
 

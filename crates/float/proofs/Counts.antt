@@ -6,8 +6,7 @@ use native.Mathlib.Omega.{arith}
 use lib.Dec.{eqb}
 use borrow.Author.Tests.{eqb-true}
 use Rattle.types.specs.Choice.{pick}
-use Rattle.little.specs.Counts.{listed}
-use Rattle.float.specs.Floats.{allowedFloat}
+use Rattle.types.specs.Forms.{listed, allowedFloat}
 
 pub data Allowed (count : ℕ) : Type 0 where
   two : count ≡ 2 → Allowed count

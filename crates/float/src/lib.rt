@@ -5,12 +5,13 @@ ghost use mathlib.Core.Path.{_≡_};
 ghost use Prim.Native.Nat.{_+_, _<_, _≤_, _^_};
 ghost use lib.Ieee.{binary32, binary64, toBits};
 ghost use lib.ListN.{length};
+ghost use Rattle.types.specs.Forms.{allowedFloat};
 ghost use Rattle.lent.specs.Lent.{writtenAnswer, writtenContent};
 ghost use Rattle.little.specs.Le.{numberAt};
 ghost use Rattle.binary.specs.Formats.{single};
 ghost use Rattle.binary.specs.Conversions.{narrowedMeaning};
 ghost use Rattle.binary.specs.Floats.{floatMeaning};
-ghost use Rattle.float.specs.Floats.{allowedFloat, floatOf, floatFrom, floatRead};
+ghost use Rattle.float.specs.Floats.{floatOf, floatFrom, floatRead};
 ghost use Rattle.float.specs.Bytes.{f32Bytes, f64Bytes, valueBytes};
 ghost use Rattle.float.specs.Values.{
   floatValue,
@@ -80,7 +81,8 @@ pub fn filled_bits(source: &[u8], at: usize, count: u64) -> u64
     requires { ⌜ allowedFloat count ≡ true ⌝ }
     ensures { λ r. ⌜ (r ≡ numberAt count (now (source .entry)) at) × (r < 256 ^ count) ⌝ }
 {
-    little::filled(source, at, count as usize)
+    let block = little::filled(source, at);
+    stored_bits(&block, 0, count)
 }
 
 // Reads a float of that many bytes, at a place within the source.
@@ -92,7 +94,7 @@ fn read_at(kind: Kind, count: u64, source: &[u8], at: usize, way: Way) -> FloatA
         return FloatAnswer::Refused(Place(at), Refusal::UnexpectedKind(kind, Kind::Float));
     }
     if !allowed(count) {
-        return FloatAnswer::Refused(Place(at), Refusal::UnsupportedByteCount(Kind::Float, count));
+        return FloatAnswer::Refused(Place(at), Refusal::unsupported(Kind::Float, count));
     }
     if count <= (source.len() - at) as u64 {
         let bits = stored_bits(source, at, count);

@@ -5,6 +5,7 @@ use mathlib.Core.List.{List}
 use Prim.Native.Nat.{ℕ, _+_, _≤_, _<_}
 use lib.ListN.{length}
 use Rattle.types.specs.Ways.{exact}
+use Rattle.types.specs.Forms.{allowedCount, unsupported}
 use Rattle.types.specs.declared.Way.{Way}
 use Rattle.types.specs.declared.Kind.{Kind}
 use Rattle.types.specs.declared.Kind.the-variants as K
@@ -13,7 +14,7 @@ use Rattle.types.specs.declared.IntegerAnswer.{IntegerAnswer}
 use Rattle.types.specs.declared.IntegerAnswer.the-variants as IA
 use Rattle.types.proofs.Ways.{up-to-within, up-to-filled}
 use Rattle.little.specs.Le.{numberAt}
-use Rattle.integer.specs.Integers.{allowedCount, integerKind, integerOf, integerBody, integerFrom}
+use Rattle.integer.specs.Integers.{integerKind, integerOf, integerBody, integerFrom}
 
 module _ (way : Way) (s : List ℕ) (at : ℕ) (kind : Kind) (count : ℕ) where
   found : ℕ → IntegerAnswer
@@ -40,7 +41,7 @@ module _ (way : Way) (s : List ℕ) (at : ℕ) (kind : Kind) (count : ℕ) where
   from-other-kind k = simp k
 
   pub from-other-count : integerKind kind ≡ true → allowedCount count ≡ false →
-      integerFrom way s at kind count ≡ IA.Refused (record { 0 = at }) (R.UnsupportedByteCount kind count)
+      integerFrom way s at kind count ≡ IA.Refused (record { 0 = at }) (unsupported kind count)
   unfolding integerFrom
   from-other-count k a = simp (k, a)
 

@@ -13,13 +13,13 @@ use mir.Val.{SFits, toZ, ofZ}
 use mir.ValLaws.{toZ-ofZ}
 use Rattle.types.specs.Choice.{pick}
 use Rattle.types.specs.Values.{words}
+use Rattle.types.specs.Forms.{integersRead, listed, allowedCount}
 use Rattle.types.specs.declared.Integer.the-variants as I
 use Rattle.types.specs.declared.Wide.{Wide}
 use Rattle.little.specs.Le.{numberAt}
 use Rattle.little.specs.Twos.{twos}
-use Rattle.little.specs.Counts.{counts, listed}
 use Rattle.little.proofs.At.{number-add}
-use Rattle.integer.specs.Integers.{allowedCount, intOf, uintOf}
+use Rattle.integer.specs.Integers.{intOf, uintOf}
 
 -- a count that a reader has found to be n, and the bits that it has read there
 module _ (s : List ℕ) (at count n bits : ℕ) (e : count ≡ n) (f : bits ≡ numberAt n s at) where
@@ -126,7 +126,7 @@ among c [] = false
 among c (d ∷ ds) = pick (eqb c d) true (among c ds)
 
 module _ (count : ℕ) where
-  pub count-listed : (n : ℕ) → count ≡ n → among n counts ≡ true → true ≡ allowedCount count
+  pub count-listed : (n : ℕ) → count ≡ n → among n integersRead ≡ true → true ≡ allowedCount count
   unfolding listed
   count-listed n e l = cc
 

@@ -5,8 +5,7 @@ use mathlib.Core.List.{List, [], _∷_}
 use Prim.Native.Nat.{ℕ, _<_, _≤_}
 use lib.Dec.{eqb, lit<, lit≤}
 use borrow.Author.Tests.{eqb-true}
-use Rattle.little.specs.Counts.{counts, listed}
-use Rattle.integer.specs.Integers.{allowedCount}
+use Rattle.types.specs.Forms.{integersRead, listed, allowedCount}
 
 -- it holds of each
 abbrev pub Each : (ℕ → Type 0) → List ℕ → Type 0
@@ -25,4 +24,4 @@ each P (d ∷ ds) h n e = each-at P d ds n (eqb n d) refl (h .0) (each P ds (h .
 
 -- an allowed count is 1 to 16
 pub allowed-bounds : (n : ℕ) → allowedCount n ≡ true → (0 < n) × (n ≤ 16)
-allowed-bounds n h = each (λ m. (0 < m) × (m ≤ 16)) counts ((lit< tt, lit≤ tt), ((lit< tt, lit≤ tt), ((lit< tt, lit≤ tt), ((lit< tt, lit≤ tt), ((lit< tt, lit≤ tt), ((lit< tt, lit≤ tt), ((lit< tt, lit≤ tt), tt))))))) n h
+allowed-bounds n h = each (λ m. (0 < m) × (m ≤ 16)) integersRead ((lit< tt, lit≤ tt), ((lit< tt, lit≤ tt), ((lit< tt, lit≤ tt), ((lit< tt, lit≤ tt), ((lit< tt, lit≤ tt), ((lit< tt, lit≤ tt), ((lit< tt, lit≤ tt), tt))))))) n h

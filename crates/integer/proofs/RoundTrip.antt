@@ -11,17 +11,18 @@ use lib.ListN.{length, length-append}
 use mir.Syntax.{w128}
 use mir.Val.{toZ}
 use Rattle.types.specs.Values.{value}
+use Rattle.types.specs.Forms.{integersRead, allowedCount}
 use Rattle.types.specs.declared.Way.{Way}
 use Rattle.types.specs.declared.Kind.{Kind}
 use Rattle.types.specs.declared.IntegerAnswer.the-variants as IA
 use Rattle.types.proofs.Values.{joined-words}
 use Rattle.little.specs.Le.{toLE, numberAt}
 use Rattle.little.specs.Twos.{twos, twosBits}
-use Rattle.little.specs.Counts.{counts, holdsS}
+use Rattle.little.specs.Counts.{holdsS}
 use Rattle.little.proofs.Width.{to-length}
 use Rattle.little.proofs.At.{number-reads}
 use Rattle.little.proofs.Two.{twos-bits, machine-twos}
-use Rattle.integer.specs.Integers.{allowedCount, intOf, uintOf, integerOf, integerBody}
+use Rattle.integer.specs.Integers.{intOf, uintOf, integerOf, integerBody}
 use Rattle.integer.proofs.Counts.{each}
 use Rattle.integer.proofs.Answers.{body-whole}
 
@@ -30,13 +31,13 @@ pub int-value : (n : ℕ) → allowedCount n ≡ true → (v : ℕ) → value (i
 unfolding intOf
 int-value n h v =
     let wide = ap (toZ w128) (joined-words v) ∙ machine-twos v in
-    each (λ m. value (intOf m v) ≡ twos m v) counts (refl, (refl, (refl, (refl, (refl, (refl, (wide, tt))))))) n h
+    each (λ m. value (intOf m v) ≡ twos m v) integersRead (refl, (refl, (refl, (refl, (refl, (refl, (wide, tt))))))) n h
 
 pub uint-value : (n : ℕ) → allowedCount n ≡ true → (v : ℕ) → value (uintOf n v) ≡ pos v
 unfolding uintOf
 uint-value n h v =
     let wide = ap pos (joined-words v) in
-    each (λ m. value (uintOf m v) ≡ pos v) counts (refl, (refl, (refl, (refl, (refl, (refl, (wide, tt))))))) n h
+    each (λ m. value (uintOf m v) ≡ pos v) integersRead (refl, (refl, (refl, (refl, (refl, (refl, (wide, tt))))))) n h
 
 -- a held value comes back
 pub int-value-back : (n : ℕ) (z : ℤ) → allowedCount n ≡ true → holdsS n z ≡ true → value (intOf n (twosBits n z)) ≡ z

@@ -8,7 +8,8 @@ use lib.Dec.{ltb, eqb}
 use lib.IntN.{ℤ}
 use borrow.Author.Tests.{ltb-true, lt-ltb, eqb-true, eq-eqb}
 use Rattle.types.specs.Choice.{pick}
-use Rattle.little.specs.Counts.{counts, listed, holdsU, holdsS, firstThat, shortestU, shortestS}
+use Rattle.types.specs.Forms.{integersWritten, listed}
+use Rattle.little.specs.Counts.{holdsU, holdsS, firstThat, shortestU, shortestS}
 
 -- whether each number of a list is above the one before it, and the first above m
 unfoldable pub rising : ℕ → List ℕ → Bool
@@ -98,24 +99,24 @@ module _ (p : ℕ → Bool) where
 -- the smallest count that holds the value: it holds it, it is a count, and no smaller count holds it
 pub shortestU-holds : (k : ℕ) → k < 256 ^ 16 → holdsU (shortestU k) k ≡ true
 unfolding shortestU holdsU listed
-shortestU-holds k h = first-holds (λ n. holdsU n k) counts 16 refl (lt-ltb k (256 ^ 16) h)
+shortestU-holds k h = first-holds (λ n. holdsU n k) integersWritten 16 refl (lt-ltb k (256 ^ 16) h)
 
-pub shortestU-listed : (k : ℕ) → k < 256 ^ 16 → listed (shortestU k) counts ≡ true
+pub shortestU-listed : (k : ℕ) → k < 256 ^ 16 → listed (shortestU k) integersWritten ≡ true
 unfolding shortestU holdsU listed
-shortestU-listed k h = first-listed (λ n. holdsU n k) counts 16 refl (lt-ltb k (256 ^ 16) h)
+shortestU-listed k h = first-listed (λ n. holdsU n k) integersWritten 16 refl (lt-ltb k (256 ^ 16) h)
 
-pub shortestU-least : (k c : ℕ) → listed c counts ≡ true → c < shortestU k → holdsU c k ≡ false
+pub shortestU-least : (k c : ℕ) → listed c integersWritten ≡ true → c < shortestU k → holdsU c k ≡ false
 unfolding shortestU rising
-shortestU-least k c l h = first-least (λ n. holdsU n k) 0 counts c refl l h
+shortestU-least k c l h = first-least (λ n. holdsU n k) 0 integersWritten c refl l h
 
 pub shortestS-holds : (z : ℤ) → holdsS 16 z ≡ true → holdsS (shortestS z) z ≡ true
 unfolding shortestS listed
-shortestS-holds z h = first-holds (λ n. holdsS n z) counts 16 refl h
+shortestS-holds z h = first-holds (λ n. holdsS n z) integersWritten 16 refl h
 
-pub shortestS-listed : (z : ℤ) → holdsS 16 z ≡ true → listed (shortestS z) counts ≡ true
+pub shortestS-listed : (z : ℤ) → holdsS 16 z ≡ true → listed (shortestS z) integersWritten ≡ true
 unfolding shortestS listed
-shortestS-listed z h = first-listed (λ n. holdsS n z) counts 16 refl h
+shortestS-listed z h = first-listed (λ n. holdsS n z) integersWritten 16 refl h
 
-pub shortestS-least : (z : ℤ) (c : ℕ) → listed c counts ≡ true → c < shortestS z → holdsS c z ≡ false
+pub shortestS-least : (z : ℤ) (c : ℕ) → listed c integersWritten ≡ true → c < shortestS z → holdsS c z ≡ false
 unfolding shortestS rising
-shortestS-least z c l h = first-least (λ n. holdsS n z) 0 counts c refl l h
+shortestS-least z c l h = first-least (λ n. holdsS n z) 0 integersWritten c refl l h

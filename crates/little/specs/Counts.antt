@@ -1,19 +1,11 @@
--- The byte counts of integers, and the smallest that holds a value. Document 01, "Bytes of an atom".
+-- The smallest byte count that holds a value. Document 01, "Bytes of an atom".
 use Prim.Native.Nat.{ℕ, _/_, _^_}
-use mathlib.Core.Bool.{Bool, true, false}
+use mathlib.Core.Bool.{Bool}
 use mathlib.Core.List.{List, [], _∷_}
-use lib.Dec.{ltb, eqb}
+use lib.Dec.{ltb}
 use lib.IntN.{ℤ, pos, negsuc}
 use Rattle.types.specs.Choice.{pick}
-
--- "counts 1, 2, 3, 4, 6, 8, 16"
-abbrev pub counts : List ℕ
-counts = 1 ∷ 2 ∷ 3 ∷ 4 ∷ 6 ∷ 8 ∷ 16 ∷ []
-
--- whether a number is one of a list
-unfoldable pub listed : ℕ → List ℕ → Bool
-listed c [] = false
-listed c (d ∷ ds) = pick (eqb c d) true (listed c ds)
+use Rattle.types.specs.Forms.{integersWritten}
 
 -- whether n bytes hold an unsigned value
 unfoldable pub holdsU : ℕ → ℕ → Bool
@@ -31,7 +23,7 @@ firstThat p (c ∷ cs) = pick (p c) c (firstThat p cs)
 
 -- "Writers use the smallest count that holds the value."
 unfoldable pub shortestU : ℕ → ℕ
-shortestU k = firstThat (λ n. holdsU n k) counts
+shortestU k = firstThat (λ n. holdsU n k) integersWritten
 
 unfoldable pub shortestS : ℤ → ℕ
-shortestS z = firstThat (λ n. holdsS n z) counts
+shortestS z = firstThat (λ n. holdsS n z) integersWritten

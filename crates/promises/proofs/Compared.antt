@@ -12,7 +12,7 @@ use borrow.Author.Tests.{le-leb, lt-leb, eq-eqb, ne-eqb, eqb-true}
 use Rattle.types.specs.Values.{value}
 use Rattle.types.specs.declared.Integer.{Integer}
 use Rattle.types.specs.declared.Float.{Float}
-use Rattle.binary.specs.Formats.{Meaning, finite, infinite, nan, Number}
+use Rattle.binary.specs.Formats.{Meaning, finite, infinite, nan, NotNan}
 use Rattle.cast.specs.Variants.{sign, width, sameSign, sameValue, equalIntegers}
 use Rattle.float.specs.Values.{floatMeans, smallness, atMost, isZero, equalNumbers, equalFloats}
 use Rattle.promises.specs.Casts.{IntegerZeroRows, FloatZeroRows, EqualIntegerRows, EqualFloatRows}
@@ -90,7 +90,7 @@ equal-integers a b = record {
 }
 
 -- a number equals itself
-itself-equal : (m : Meaning) → Number m → equalNumbers m m ≡ true
+itself-equal : (m : Meaning) → NotNan m → equalNumbers m m ≡ true
 itself-equal (finite s m) h = rw (eq-eqb m m refl) (same s)
   where
     same : (s : Bool) → (Bool·beq s s || eqb m 0) ≡ true
@@ -108,7 +108,7 @@ zeros-equal false false = refl
 
 -- what equal meanings are
 abbrev Alike : Meaning → Meaning → Type 0
-Alike a b = (Number a × (a ≡ b)) ⊎ ((s : Bool) × (t : Bool) × (a ≡ finite s 0) × (b ≡ finite t 0))
+Alike a b = (NotNan a × (a ≡ b)) ⊎ ((s : Bool) × (t : Bool) × (a ≡ finite s 0) × (b ≡ finite t 0))
 
 alike-finite : (s t : Bool) (m n : ℕ) → m ≡ n → (Bool·beq s t || eqb m 0) ≡ true → Alike (finite s m) (finite t n)
 alike-finite true true m n e h = inl (tt, ap (finite true) e)

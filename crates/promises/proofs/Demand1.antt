@@ -16,7 +16,9 @@ use borrow.Author.Tests.{ltb-true, ltb-false, leb-true, leb-false, le-ltb, lt-lt
 use Rattle.types.specs.Choice.{pick}
 use Rattle.types.specs.Ways.{exact}
 use Rattle.types.specs.Counters.{placeIn}
-use Rattle.types.specs.Kinds.{kindCode, kindFrom, specialFrom}
+use Rattle.types.specs.Kinds.{kindCode, kindFrom}
+use Rattle.types.specs.Forms.{allowedCount, allowedFloat, countOf, numberCharge, known, bodyLength, chargeOf, isString}
+use Rattle.types.specs.Forms.{unknown, unsupported}
 use Rattle.types.specs.declared.Way.{Way}
 use Rattle.types.specs.declared.Kind.{Kind}
 use Rattle.types.specs.declared.Kind.the-variants as K
@@ -29,26 +31,25 @@ use Rattle.types.specs.declared.BudgetAnswer.the-variants as BA
 use Rattle.types.specs.declared.HeaderAnswer.{HeaderAnswer}
 use Rattle.types.specs.declared.HeaderAnswer.the-variants as H
 use Rattle.types.specs.declared.AtomAnswer.{AtomAnswer}
+use Rattle.types.specs.declared.AtomAnswer.the-variants as A
 use Rattle.types.proofs.Places.{place-same}
-use Rattle.types.proofs.Specials.{special-unknown}
 use Rattle.header.specs.Header.{headerRead, headerFrom, headerLength, headerKind, headerArgument}
 use Rattle.reader.specs.Strings.{stringAnswer, stringScratch, stringMark, scratchNeeded, startOf}
 use Rattle.reader.proofs.Delivered.{Outcome, whole, cut, cramped, outcome, string-read, string-eof, string-no-room}
 use Rattle.reader.proofs.Strings.{start-same}
-use Rattle.integer.specs.Integers.{integerKind, allowedCount, integerOf, integerFrom, integerBody}
+use Rattle.integer.specs.Integers.{integerOf, integerBody}
 use Rattle.little.specs.Le.{numberAt}
-use Rattle.float.specs.Floats.{allowedFloat, floatOf, floatFrom, floatBody}
+use Rattle.float.specs.Floats.{floatOf, floatBody}
 use Rattle.float.proofs.Counts.{allowed-is}
-use Rattle.atom.specs.Charges.{countOf, numberCharge}
-use Rattle.atom.specs.Atoms.{atomRead, atomScratch, atomFrom, scratchFrom, atomAfter, scratchAfter, charged}
-use Rattle.atom.specs.Atoms.{specialAtom}
-use Rattle.atom.specs.Atoms.{integerAfter, integerAtom, floatAfter, floatAtom, bytesAfter, bytesAtom, scratchCharged}
-use Rattle.dictionary.specs.Wholes.{known, bodyLength, chargeOf, isString}
+use Rattle.atom.specs.Atoms.{atomRead, atomScratch, atomFrom, scratchFrom, atomAfter, scratchAfter, charged, judged}
+use Rattle.atom.specs.Atoms.{specialTaken, integerTaken, floatTaken, bytesTaken, integerAtom, bytesAtom}
+use Rattle.atom.specs.Atoms.{scratchCharged}
+use Rattle.atom.proofs.Answers.{free}
 use Rattle.promises.specs.Told.{Told, told, markTold, integerTold, floatTold, toldAtom}
 use Rattle.promises.specs.Held.{held, copied}
 use Rattle.promises.specs.Rows.{Row, three, four-in-header, four-in-body, five, six, nine, read, Good}
 use Rattle.promises.specs.Rows.{Number, int, uint, float, canEnd, roomOf, refusal, taking, endOf, less}
-use Rattle.promises.proofs.Held.{outside, integer-told, float-told, string-copied}
+use Rattle.promises.proofs.Held.{outside, integer-told, float-told, special-told, string-copied}
 
 -- a code of 8 or more is none of the eight kinds
 pub unknown-kind : (n : ℕ) → 8 ≤ n → kindFrom n ≡ KA.Refused (R.InvalidKind n)
@@ -129,6 +130,10 @@ module _ (way : Way) (s : List ℕ) (budget : Budget) (scratch : List ℕ) (next
   charges kind body after true e k f = rw k (five (ltb-true (budget .0) (chargeOf kind arg) e))
   charges kind body after false e k f = f (ltb-false (budget .0) (chargeOf kind arg) e)
 
+  -- the body of an atom that is known, and the refusal of one that is not
+  abbrev formed : Kind → (Budget → AtomAnswer) → Budget → AtomAnswer
+  formed kind body rest = pick (known kind arg) (body rest) (A.Refused next rest (unknown kind arg))
+
   -- a number of an allowed count, whose bytes are there
   number-whole : (kind : Kind) (holds : List ℤ) → Number kind → known kind arg ≡ true →
       chargeOf kind arg ≤ budget .0 → held way s (next .0) kind arg ≡ holds → next .0 + countOf arg ≤ length s →
@@ -179,32 +184,32 @@ module _ (way : Way) (s : List ℕ) (budget : Budget) (scratch : List ℕ) (next
       ap (λ (l : List ℤ). pos 3 ∷ pos (numberAt (countOf arg) s (next .0)) ∷ l)
       (sym (float-told (countOf arg) (numberAt (countOf arg) s (next .0)) (allowed-is (countOf arg) e)))
 
-  -- an integer's body, by the tests that it passes: its count is allowed, its bytes are there, the way is exact
-  integers : (kind : Kind) → Number kind → integerKind kind ≡ true →
-      known kind arg ≡ allowedCount (countOf arg) → chargeOf kind arg ≤ budget .0 →
-      (allowedCount (countOf arg) ≡ true →
+  -- an integer, by the tests that it passes: it is known, its bytes are there, the way is exact
+  integers : (kind : Kind) → Number kind → chargeOf kind arg ≤ budget .0 →
+      (known kind arg ≡ true →
       held way s (next .0) kind arg
       ≡ pos 2 ∷ integerTold (integerOf kind (countOf arg) (numberAt (countOf arg) s (next .0)))) →
-      (a t x : Bool) → allowedCount (countOf arg) ≡ a → leb (next .0 + countOf arg) (length s) ≡ t → exact way ≡ x →
+      (a t x : Bool) → known kind arg ≡ a → leb (next .0 + countOf arg) (length s) ≡ t → exact way ≡ x →
       Row way s budget scratch (H.Read next kind arg)
       (toldAtom
-      (integerAtom kind arg (less budget (chargeOf kind arg)) (integerFrom way s (next .0) kind (countOf arg)))) scratch
-  unfolding integerFrom integerBody
-  integers kind w k n b h false t x e f g = rw (k, e) (six w b (n ∙ e))
-  integers kind w k n b h true true x e f g =
-      rw (k, e, f) (number-whole kind _ w (n ∙ e) b (h e) (leb-true (next .0 + countOf arg) (length s) f))
-  integers kind w k n b h true false true e f g =
-      rw (k, e, f, g) (number-cut kind w (n ∙ e) b (leb-false (next .0 + countOf arg) (length s) f) g)
-  integers kind w k n b h true false false e f g =
-      rw (k, e, f, g) (number-filled kind _ w (n ∙ e) b (h e) (leb-false (next .0 + countOf arg) (length s) f) g)
+      (pick a
+      (integerAtom kind arg (less budget (chargeOf kind arg)) (integerBody way s (next .0) kind (countOf arg)))
+      (A.Refused next (less budget (chargeOf kind arg)) (unsupported kind (countOf arg))))) scratch
+  unfolding integerBody
+  integers kind w b h false t x e f g = six w b e
+  integers kind w b h true true x e f g =
+      rw f (number-whole kind _ w e b (h e) (leb-true (next .0 + countOf arg) (length s) f))
+  integers kind w b h true false true e f g =
+      rw (f, g) (number-cut kind w e b (leb-false (next .0 + countOf arg) (length s) f) g)
+  integers kind w b h true false false e f g =
+      rw (f, g) (number-filled kind _ w e b (h e) (leb-false (next .0 + countOf arg) (length s) f) g)
 
-  -- a float's likewise
-  floats : chargeOf K.Float arg ≤ budget .0 → (a t x : Bool) → allowedFloat (countOf arg) ≡ a →
+  -- a float likewise
+  floats : chargeOf K.Float arg ≤ budget .0 → (a t x : Bool) → known K.Float arg ≡ a →
       leb (next .0 + countOf arg) (length s) ≡ t → exact way ≡ x →
       Row way s budget scratch (H.Read next K.Float arg)
-      (toldAtom
-      (floatAtom arg (less budget (chargeOf K.Float arg)) (floatFrom way s (next .0) K.Float (countOf arg)))) scratch
-  unfolding floatFrom floatBody
+      (toldAtom (formed K.Float (floatTaken way s arg next) (less budget (chargeOf K.Float arg)))) scratch
+  unfolding floatBody
   floats b false t x e f g = rw e (six float b e)
   floats b true true x e f g =
       rw (e, f) (number-whole K.Float _ float e b (float-holds e) (leb-true (next .0 + countOf arg) (length s) f))
@@ -240,64 +245,51 @@ module _ (way : Way) (s : List ℕ) (budget : Budget) (scratch : List ℕ) (next
 
 -- a special, by its argument
 specials : (way : Way) (s : List ℕ) (budget : Budget) (scratch : List ℕ) (next : Place) (n : ℕ) →
-    next .0 ≤ length s →
-    Row way s budget scratch (H.Read next K.Special n) (toldAtom (specialAtom n next budget (specialFrom n))) scratch
-specials way s budget scratch next zero h =
-    headed way s budget scratch next 0 K.Special _ refl refl refl refl refl h
-specials way s budget scratch next (suc zero) h =
-    headed way s budget scratch next 1 K.Special _ refl refl refl refl refl h
-specials way s budget scratch next (suc (suc zero)) h =
-    headed way s budget scratch next 2 K.Special _ refl refl refl refl refl h
-specials way s budget scratch next (suc (suc (suc zero))) h =
-    headed way s budget scratch next 3 K.Special _ refl refl refl refl refl h
-specials way s budget scratch next (suc (suc (suc (suc zero)))) h =
-    headed way s budget scratch next 4 K.Special _ refl refl refl refl refl h
-specials way s budget scratch next (suc (suc (suc (suc (suc zero))))) h =
-    headed way s budget scratch next 5 K.Special _ refl refl refl refl refl h
-specials way s budget scratch next (suc (suc (suc (suc (suc (suc zero)))))) h =
-    headed way s budget scratch next 6 K.Special _ refl refl refl refl refl h
-specials way s budget scratch next (suc (suc (suc (suc (suc (suc (suc n))))))) h =
-    let k : 7 ≤ suc (suc (suc (suc (suc (suc (suc n)))))) = omega arith in
-    rw (special-unknown (suc (suc (suc (suc (suc (suc (suc n))))))) k) (three k)
+    next .0 ≤ length s → (t : Bool) → ltb n 7 ≡ t →
+    Row way s budget scratch (H.Read next K.Special n)
+    (toldAtom (formed way s budget scratch next n K.Special (specialTaken n next) budget)) scratch
+specials way s budget scratch next n h true e =
+    rw e (headed way s budget scratch next n K.Special _ e refl refl refl (special-told n (ltb-true n 7 e)) h)
+specials way s budget scratch next n h false e = rw e (three (ltb-false n 7 e))
 
 -- what follows a header
 after-header : (way : Way) (s : List ℕ) (budget : Budget) (scratch : List ℕ) (next : Place) (arg : ℕ) (kind : Kind) →
     next .0 ≤ length s →
     Row way s budget scratch (H.Read next kind arg) (toldAtom (atomAfter way s kind arg next budget scratch))
     (scratchAfter way s kind arg next budget scratch)
-unfolding integerAfter floatAfter bytesAfter
-after-header way s budget scratch next arg K.Special h = specials way s budget scratch next arg h
+unfolding judged
+after-header way s budget scratch next arg K.Special h =
+    rw (free budget) (specials way s budget scratch next arg h (ltb arg 7) refl)
 after-header way s budget scratch next arg K.Int h =
     charges way s budget scratch next arg K.Int
-    (λ rest. integerAtom K.Int arg rest (integerFrom way s (next .0) K.Int (countOf arg))) (λ rest. scratch)
+    (formed way s budget scratch next arg K.Int (integerTaken way s K.Int arg next)) (λ rest. scratch)
     (ltb (budget .0) (numberCharge (countOf arg))) refl refl
-    (λ b. integers way s budget scratch next arg K.Int int refl refl b
+    (λ b. integers way s budget scratch next arg K.Int int b
     (λ e. ap (λ (l : List ℤ). pos 2 ∷ l)
     (sym (integer-told (countOf arg) e (numberAt (countOf arg) s (next .0)) K.Int)))
     (allowedCount (countOf arg)) (leb (next .0 + countOf arg) (length s)) (exact way) refl refl refl)
 after-header way s budget scratch next arg K.UInt h =
     charges way s budget scratch next arg K.UInt
-    (λ rest. integerAtom K.UInt arg rest (integerFrom way s (next .0) K.UInt (countOf arg))) (λ rest. scratch)
+    (formed way s budget scratch next arg K.UInt (integerTaken way s K.UInt arg next)) (λ rest. scratch)
     (ltb (budget .0) (numberCharge (countOf arg))) refl refl
-    (λ b. integers way s budget scratch next arg K.UInt uint refl refl b
+    (λ b. integers way s budget scratch next arg K.UInt uint b
     (λ e. ap (λ (l : List ℤ). pos 2 ∷ l)
     (sym (integer-told (countOf arg) e (numberAt (countOf arg) s (next .0)) K.UInt)))
     (allowedCount (countOf arg)) (leb (next .0 + countOf arg) (length s)) (exact way) refl refl refl)
 after-header way s budget scratch next arg K.Float h =
     charges way s budget scratch next arg K.Float
-    (λ rest. floatAtom arg rest (floatFrom way s (next .0) K.Float (countOf arg))) (λ rest. scratch)
+    (formed way s budget scratch next arg K.Float (floatTaken way s arg next)) (λ rest. scratch)
     (ltb (budget .0) (numberCharge (countOf arg))) refl refl
     (λ b. floats way s budget scratch next arg b (allowedFloat (countOf arg))
     (leb (next .0 + countOf arg) (length s)) (exact way) refl refl refl)
 after-header way s budget scratch next arg K.Sequence h =
-    headed way s budget scratch next arg K.Sequence _ refl refl refl refl refl h
+    rw (free budget) (headed way s budget scratch next arg K.Sequence _ refl refl refl refl refl h)
 after-header way s budget scratch next arg K.Map h =
-    headed way s budget scratch next arg K.Map _ refl refl refl refl refl h
+    rw (free budget) (headed way s budget scratch next arg K.Map _ refl refl refl refl refl h)
 after-header way s budget scratch next arg K.Symbol h =
-    headed way s budget scratch next arg K.Symbol _ refl refl refl refl refl h
+    rw (free budget) (headed way s budget scratch next arg K.Symbol _ refl refl refl refl refl h)
 after-header way s budget scratch next arg K.Bytes h =
-    charges way s budget scratch next arg K.Bytes
-    (λ rest. bytesAtom arg rest (stringAnswer way s (next .0) arg scratch))
+    charges way s budget scratch next arg K.Bytes (bytesTaken way s arg next scratch)
     (λ rest. scratchCharged way s (next .0) arg scratch rest) (ltb (budget .0) arg) refl refl
     (λ b. strings way s budget scratch next arg b h (outcome way s (next .0) arg scratch))
 

@@ -32,12 +32,12 @@ use Rattle.little.specs.Counts.{holdsS, holdsU, shortestS, shortestU}
 use Rattle.little.proofs.Width.{to-length}
 use Rattle.little.proofs.Two.{bits-lt}
 use Rattle.little.proofs.Shortest.{shortestS-holds, shortestS-listed, shortestU-holds, shortestU-listed}
-use Rattle.integer.specs.Integers.{allowedCount, integerKind, integerOf, intOf, uintOf, integerBody}
+use Rattle.integer.specs.Integers.{integerKind, integerOf, intOf, uintOf, integerBody}
 use Rattle.types.specs.declared.IntegerAnswer.the-variants as IA
 use Rattle.types.specs.Counters.{placeIn}
 use borrow.Author.Tests.{ltb-true, lt-ltb}
 use Rattle.integer.proofs.Counts.{allowed-bounds}
-use Rattle.integer.proofs.Answers.{from-body}
+use Rattle.float.proofs.Answers.{from-body}
 use Rattle.integer.proofs.RoundTrip.{body-back, int-value-back, uint-value}
 use Rattle.writers.specs.Bytes.{integerBytes, signedBytes, unsignedBytes, valueBytes}
 use Rattle.float.specs.Floats.{floatOf}
@@ -45,12 +45,12 @@ use Rattle.float.specs.Bytes.{floatBytes}
 use Rattle.float.proofs.Counts.{Allowed, two, four, eight, allowed-is}
 use Rattle.float.proofs.Stored.{Stored, stored-single, stored-double, meaning-kept}
 use Rattle.float.proofs.RoundTrip as floats
-use Rattle.atom.specs.Charges.{countOf, numberCharge}
 use Rattle.atom.specs.Atoms.{specialNucleus, atomRead, atomScratch, scratchFrom, scratchCharged, atomFrom, atomAfter}
-use Rattle.atom.specs.Atoms.{atomOf, integerAfter, integerAtom, floatAtom}
+use Rattle.atom.specs.Atoms.{atomOf, judged, integerTaken, headerTaken, integerAtom, floatAtom}
+use Rattle.atom.specs.Charges.{budgetAfter}
 use Rattle.atom.proofs.Back.{atom-back, paid, bytes-back, special-back}
-use Rattle.atom.proofs.Answers.{integer-left, float-left}
-use Rattle.dictionary.specs.Wholes.{price, chargeOf}
+use Rattle.atom.proofs.Answers.{free, judged-left, integer-left, float-left}
+use Rattle.dictionary.specs.Wholes.{price}
 use Rattle.types.specs.Kinds.{specialCode}
 use Rattle.types.specs.declared.Atom.{Atom}
 use Rattle.types.specs.declared.Special.{Special}
@@ -59,6 +59,8 @@ use Rattle.types.specs.declared.Integer.{Integer}
 use Rattle.types.specs.declared.Integer.the-variants as I
 use Rattle.types.specs.declared.Float.the-variants as F
 use Rattle.types.specs.Values.{joined, joinedSigned, value}
+use Rattle.types.specs.Forms.{allowedCount, countOf, numberCharge, chargeOf, known}
+use Rattle.types.proofs.Forms.{written-read}
 use Rattle.cast.specs.Variants.{sign, width, inRange}
 use Rattle.promises.specs.Rows.{Number, int, uint, float}
 use Rattle.promises.specs.Values.{Value, number, natural, integer, f32-bits, f64-bits, f32, f64, special, string}
@@ -74,7 +76,7 @@ counted n p q = omega arith
 -- what follows an integer's header
 after-integer : (way : Way) (s : List ℕ) (kind : Kind) (arg : ℕ) (next : Place) (budget : Budget) (scratch : List ℕ) →
     integerKind kind ≡ true →
-    atomAfter way s kind arg next budget scratch ≡ integerAfter way s kind arg next budget
+    atomAfter way s kind arg next budget scratch ≡ judged kind arg next budget (integerTaken way s kind arg next)
 after-integer way s K.Special arg next budget scratch e = absurd (false≢true e)
 after-integer way s K.Int arg next budget scratch e = refl
 after-integer way s K.UInt arg next budget scratch e = refl
@@ -110,10 +112,10 @@ integer-back way kind n bits before after budget scratch k a l b =
     ap (λ (l : List ℕ). atomRead way (before ++ l) (length before) budget scratch) (append-assoc hd le after)
     ∙ atom-back way kind (n - 1) before (le ++ after) budget scratch arg
     ∙ after-integer way s kind (n - 1) next budget scratch k
-    ∙ sym (integer-left way s (n - 1) next budget left kind n (counted n (range .0) (range .1))
-    (paid budget (numberCharge n) b))
-    ∙ ap (integerAtom kind (n - 1) left) (from-body way s (length before + length hd) kind n k a
-    ∙ ap (λ (p : ℕ). integerBody way s p kind n) (sym place) ∙ body-back way kind n bits (before ++ hd) after s split l
+    ∙ sym (integer-left way s (n - 1) next budget left n (counted n (range .0) (range .1))
+    (paid budget (numberCharge n) b) kind k a)
+    ∙ ap (integerAtom kind (n - 1) left) (ap (λ (p : ℕ). integerBody way s p kind n) (sym place)
+    ∙ body-back way kind n bits (before ++ hd) after s split l
     ∙ ap (λ (p : ℕ). IA.Read (record { 0 = p + n }) (integerOf kind n bits)) place)
     ∙ ap (λ (p : ℕ). A.Read (record { 0 = p }) left (atomOf kind (n - 1) (N.Integer (integerOf kind n bits)))) end
 
@@ -130,7 +132,7 @@ unfolding signedBytes
 signed-back way z before after budget scratch h b =
     let n : ℕ = shortestS z in
     let held = shortestS-holds z h in
-    let listed = shortestS-listed z h in (
+    let listed = written-read n (shortestS-listed z h) in (
       integer-back way K.Int n (twosBits n z) before after budget scratch refl listed (bits-lt n z held) b,
       int-value-back n z listed held,
     )
@@ -150,7 +152,7 @@ pub unsigned-back : (way : Way) (k : ℕ) (before after : List ℕ) (budget : Bu
 unfolding unsignedBytes
 unsigned-back way k before after budget scratch h b =
     let n : ℕ = shortestU k in
-    let listed = shortestU-listed k h in (
+    let listed = written-read n (shortestU-listed k h) in (
       integer-back way K.UInt n k before after budget scratch refl listed (held-lt n k (shortestU-holds k h)) b,
       uint-value n listed k,
     )
@@ -181,8 +183,8 @@ float-back way own bits bytes before after S budget scratch b =
     ap (λ (p : ℕ). atomFrom way s budget scratch (headerFrom way s p)) at
     ∙ ap (atomFrom way s budget scratch) (back .0)
     ∙ sym (float-left way s (n - 1) next budget left n (counted n (range .0) (range .1))
-    (paid budget (numberCharge n) b))
-    ∙ ap (floatAtom (n - 1) left) (back .1)
+    (paid budget (numberCharge n) b) (S .its-count))
+    ∙ ap (floatAtom (n - 1) left) (from-body way s (length before + 1) n K.Float refl (S .its-count) ∙ back .1)
 
 -- a written string is delivered: its mark names its bytes, in the source or in the scratch after
 pub bytes-delivered : (way : Way) (before bytes after : List ℕ) (budget : Budget) (scratch : List ℕ) →
@@ -240,11 +242,12 @@ integer-price kind w n bits a =
 
 signed-price : (z : ℤ) → holdsS 16 z ≡ true → price (signedBytes z) ≡ numberCharge (shortestS z)
 unfolding signedBytes
-signed-price z h = integer-price K.Int int (shortestS z) (twosBits (shortestS z) z) (shortestS-listed z h)
+signed-price z h =
+    integer-price K.Int int (shortestS z) (twosBits (shortestS z) z) (written-read (shortestS z) (shortestS-listed z h))
 
 unsigned-price : (k : ℕ) → k < 256 ^ 16 → price (unsignedBytes k) ≡ numberCharge (shortestU k)
 unfolding unsignedBytes
-unsigned-price k h = integer-price K.UInt uint (shortestU k) k (shortestU-listed k h)
+unsigned-price k h = integer-price K.UInt uint (shortestU k) k (written-read (shortestU k) (shortestU-listed k h))
 
 float-price : (own bits : ℕ) (bytes : List ℕ) (S : Stored own bits bytes) → price bytes ≡ numberCharge (S .count)
 unfolding floatBytes
@@ -373,6 +376,13 @@ module _ (way : Way) (before after : List ℕ) (budget : Budget) (scratch : List
       (atomOf kind arg N.None)) (less-nothing (budget .0)))
       header-carried
 
+  -- a header that says all costs nothing
+  headed : (kind : Kind) (arg : ℕ) → chargeOf kind arg ≡ 0 → known kind arg ≡ true → {next : Place} →
+      judged kind arg next budget (headerTaken kind arg next N.None) ≡ A.Read next budget (atomOf kind arg N.None)
+  headed kind arg c k {next} =
+      sym (judged-left kind arg next budget (headerTaken kind arg next N.None) budget
+      (ap (budgetAfter budget) c ∙ free budget) k)
+
   -- EVERY VALUE
   pub read-back : (v : Value) →
       price (written v) ≤ budget .0 →
@@ -409,10 +419,10 @@ module _ (way : Way) (before after : List ℕ) (budget : Budget) (scratch : List
         nan-kept = λ s t e. S .nan-kept s t e .1;
       }))
   read-back (f32 x h) b r =
-      stored-read (f32 x h) 4 (floats.valueBits (F.F32 x)) (floats.stored-value (F.F32 x) h) b
+      stored-read (f32 x h) 4 (floats.ownBits (F.F32 x)) (floats.stored-value (F.F32 x) h) b
       (f32-carried (floats.value-back (F.F32 x) h))
   read-back (f64 x h) b r =
-      stored-read (f64 x h) 8 (floats.valueBits (F.F64 x)) (floats.stored-value (F.F64 x) h) b
+      stored-read (f64 x h) 8 (floats.ownBits (F.F64 x)) (floats.stored-value (F.F64 x) h) b
       (f64-carried (floats.value-back (F.F64 x) h))
   read-back (special s) b r =
       back-as (special s) 0 (atomOf K.Special (specialCode s) (specialNucleus s))
@@ -439,6 +449,7 @@ module _ (way : Way) (before after : List ℕ) (budget : Budget) (scratch : List
       ∙ ap (λ (p : ℕ). A.Read (record { 0 = p }) left (atomOf K.Bytes n (N.Bytes mark))) end)
       (string-carried (ap (λ (l : List ℕ). markedBytes mark l (atomScratch way l (length before) budget scratch)) joined
       ∙ bytes-delivered way before bytes after budget scratch h paid r))
-  read-back (header K.Sequence sequence arg h) b r = header-read K.Sequence sequence arg h refl refl
-  read-back (header K.Map map arg h) b r = header-read K.Map map arg h refl refl
-  read-back (header K.Symbol symbol arg h) b r = header-read K.Symbol symbol arg h refl refl
+  read-back (header K.Sequence sequence arg h) b r =
+      header-read K.Sequence sequence arg h refl (headed K.Sequence arg refl refl)
+  read-back (header K.Map map arg h) b r = header-read K.Map map arg h refl (headed K.Map arg refl refl)
+  read-back (header K.Symbol symbol arg h) b r = header-read K.Symbol symbol arg h refl (headed K.Symbol arg refl refl)

@@ -1,5 +1,5 @@
 -- Exact reading succeeds exactly on the atoms that are whole and of a known form, from a budget of at least their
--- charge. What is whole and known is said over the bytes from the atom's place on, by `dictionary.Wholes`.
+-- charge. What is whole and known is said over the bytes from the atom's place on, by `types.Forms`.
 use mathlib.Core.Path.{_≡_, refl, _∙_, sym, ap}
 use mathlib.Core.Bool.{Bool, true, false, false≢true}
 use mathlib.Core.List.{List, []}
@@ -7,6 +7,7 @@ use Prim.Native.Nat.{ℕ, _+_, _-_, _≤_}
 use lib.Dec.{leb}
 use lib.ListN.{length, drop}
 use borrow.Author.Tests.{leb-true, leb-false}
+use Rattle.types.specs.Forms.{known, bodyLength, chargeOf, isString, unknown}
 use Rattle.types.specs.declared.Way.the-variants as W
 use Rattle.types.specs.declared.Place.{Place}
 use Rattle.types.specs.declared.Budget.{Budget}
@@ -18,7 +19,6 @@ use Rattle.types.specs.declared.AtomAnswer.{AtomAnswer}
 use Rattle.types.specs.declared.AtomAnswer.the-variants as A
 use Rattle.header.specs.Header.{headerKind, headerArgument, headerLength, headerRead}
 use Rattle.atom.specs.Atoms.{atomRead}
-use Rattle.dictionary.specs.Wholes.{known, bodyLength, chargeOf, isString, unknown}
 use Rattle.dictionary.specs.Steps.{forgotten, skipped, bodyPast}
 use Rattle.dictionary.proofs.Bodies.{past-whole, passed}
 use Rattle.dictionary.proofs.Steps.{Past, step-cut, step-body}

@@ -21,9 +21,9 @@ use Rattle.types.specs.declared.AsF32.{AsF32}
 use Rattle.types.specs.declared.AsF32.the-variants as AsF32
 use Rattle.types.specs.declared.AsF64.{AsF64}
 use Rattle.types.specs.declared.AsF64.the-variants as AsF64
-use Rattle.binary.specs.Formats.{Layout, single, double, signWeight, Meaning, finite, infinite, nan, meaning, Number}
+use Rattle.binary.specs.Formats.{Layout, single, double, signWeight, Meaning, finite, infinite, nan, meaning, NotNan}
 use Rattle.binary.specs.Formats.{SameValue}
-use Rattle.binary.specs.Conversions.{Narrowed, exact, lost, narrowedMeaning, narrowed}
+use Rattle.binary.specs.Conversions.{Narrowed, kept, lost, narrowedMeaning, narrowed}
 use Rattle.binary.specs.Floats.{floatMeaning, plain, unitsOf}
 use Rattle.binary.proofs.Values.{toBits-means}
 use Rattle.binary.proofs.Laws.{narrowed-sound, narrowed-complete}
@@ -38,52 +38,52 @@ use Rattle.promises.specs.Floats.{NarrowingRows}
 -- ---- an F64 as an F32
 
 -- a number's meaning is the meaning of its bits
-plain-number : (m n : Meaning) → plain m ≡ n → Number n → m ≡ n
+plain-number : (m n : Meaning) → plain m ≡ n → NotNan n → m ≡ n
 plain-number (finite s k) n e h = e
 plain-number (infinite s) n e h = e
-plain-number (nan s t) n e h = absurd (subst Number (sym e) h)
+plain-number (nan s t) n e h = absurd (subst NotNan (sym e) h)
 
 module _ (x : Ieee.Float) (f : T (Ieee.fits Ieee.binary64 x)) where
-  bits-mean : Number (floatMeaning x) → meaning double (Ieee.toBits Ieee.binary64 x) ≡ floatMeaning x
+  bits-mean : NotNan (floatMeaning x) → meaning double (Ieee.toBits Ieee.binary64 x) ≡ floatMeaning x
   bits-mean n =
       plain-number (meaning double (Ieee.toBits Ieee.binary64 x)) (floatMeaning x) (toBits-means Ieee.binary64 x f) n
 
-  bits-narrow : Number (floatMeaning x) →
+  bits-narrow : NotNan (floatMeaning x) →
       narrowed double single (Ieee.toBits Ieee.binary64 x) ≡ narrowedMeaning single (floatMeaning x)
   unfolding narrowed
   bits-narrow n = ap (narrowedMeaning single) (bits-mean n)
 
   -- an equal binary32 value: the value is taken
-  equal-taken : (q : ℕ) → q < 2 * signWeight single → Number (meaning single q) →
+  equal-taken : (q : ℕ) → q < 2 * signWeight single → NotNan (meaning single q) →
       meaning single q ≡ floatMeaning x → Values.asF32 (F.F64 x) ≡ AsF32.Value x
   unfolding Values.asF32
   equal-taken q l n e =
-      let k : Number (floatMeaning x) = subst Number e n in
+      let k : NotNan (floatMeaning x) = subst NotNan e n in
       let same = bits-mean k in
       let found =
-      narrowed-complete double single (Ieee.toBits Ieee.binary64 x) q (l, subst Number (sym same) k, e ∙ sym same)
+      narrowed-complete double single (Ieee.toBits Ieee.binary64 x) q (l, subst NotNan (sym same) k, e ∙ sym same)
       in
       ap (Values.ifEqual x) (sym (bits-narrow k) ∙ found)
 
   -- none: refused
   unequal-refused :
-      ((q : ℕ) → q < 2 * signWeight single → Number (meaning single q) → meaning single q ≡ floatMeaning x → ⊥) →
+      ((q : ℕ) → q < 2 * signWeight single → NotNan (meaning single q) → meaning single q ≡ floatMeaning x → ⊥) →
       Values.asF32 (F.F64 x) ≡ AsF32.Refused R.ImpreciseCastWouldLoseData
   unfolding Values.asF32
   unequal-refused none = by (floatMeaning x) refl
     where
-      found : Number (floatMeaning x) → (r : Narrowed) → narrowed double single (Ieee.toBits Ieee.binary64 x) ≡ r →
+      found : NotNan (floatMeaning x) → (r : Narrowed) → narrowed double single (Ieee.toBits Ieee.binary64 x) ≡ r →
           Values.ifEqual x (narrowedMeaning single (floatMeaning x)) ≡ AsF32.Refused R.ImpreciseCastWouldLoseData
-      found k (exact q) h =
+      found k (kept q) h =
           let v = narrowed-sound double single (Ieee.toBits Ieee.binary64 x) q h in
           let e = v .2 ∙ bits-mean k in
-          absurd (none q (v .0) (subst Number (sym e) k) e)
+          absurd (none q (v .0) (subst NotNan (sym e) k) e)
       found k lost h = ap (Values.ifEqual x) (sym (bits-narrow k) ∙ h)
 
       by : (m : Meaning) → floatMeaning x ≡ m →
           Values.ifEqual x (narrowedMeaning single (floatMeaning x)) ≡ AsF32.Refused R.ImpreciseCastWouldLoseData
-      by (finite s m) e = found (subst Number (sym e) tt) (narrowed double single (Ieee.toBits Ieee.binary64 x)) refl
-      by (infinite s) e = found (subst Number (sym e) tt) (narrowed double single (Ieee.toBits Ieee.binary64 x)) refl
+      by (finite s m) e = found (subst NotNan (sym e) tt) (narrowed double single (Ieee.toBits Ieee.binary64 x)) refl
+      by (infinite s) e = found (subst NotNan (sym e) tt) (narrowed double single (Ieee.toBits Ieee.binary64 x)) refl
       by (nan s t) e = ap (λ (m : Meaning). Values.ifEqual x (narrowedMeaning single m)) e
 
   pub narrowed-rows : NarrowedRows x
@@ -99,7 +99,7 @@ module _ (x : Ieee.Float) (f : T (Ieee.fits Ieee.binary64 x)) where
 -- ---- the narrowing of a pattern
 
 module _ (from to : Layout) (tell : Narrowed → Told)
-    (told-exact : (q : ℕ) → tell (exact q) ≡ told 0 (pos q ∷ [])) (told-lost : tell lost ≡ told 0 []) where
+    (told-exact : (q : ℕ) → tell (kept q) ≡ told 0 (pos q ∷ [])) (told-lost : tell lost ≡ told 0 []) where
   pub narrowing-rows : NarrowingRows from to (λ bits. tell (narrowed from to bits))
   narrowing-rows = record {
     equal = λ bits q v. ap tell (narrowed-complete from to bits q v) ∙ told-exact q;
@@ -108,7 +108,7 @@ module _ (from to : Layout) (tell : Narrowed → Told)
     where
       by : (bits : ℕ) → ((q : ℕ) → SameValue from to bits q → ⊥) → (n : Narrowed) → narrowed from to bits ≡ n →
           tell (narrowed from to bits) ≡ told 0 []
-      by bits none (exact q) e = absurd (none q (narrowed-sound from to bits q e))
+      by bits none (kept q) e = absurd (none q (narrowed-sound from to bits q e))
       by bits none lost e = ap tell e ∙ told-lost
 
 -- ---- an integer as a float

@@ -2,7 +2,7 @@
 use mathlib.Core.Path.{_≡_, refl, _∙_, sym, ap}
 use mathlib.Core.Bool.{Bool, true, false}
 use mathlib.Core.List.{List, [], _∷_, _++_}
-use Prim.Native.Nat.{ℕ, _+_, _-_, _≤_, _<_}
+use Prim.Native.Nat.{ℕ, zero, suc, _+_, _-_, _≤_, _<_}
 use native.Mathlib.Omega.{arith}
 use lib.Dec.{ltb, eqb}
 use lib.IntN.{ℤ, pos}
@@ -10,7 +10,8 @@ use lib.ListN.{length, take, drop, length-drop}
 use lib.Seq.{length-take-le, take-all}
 use borrow.Author.Tests.{lt-ltb, ltb-true, ltb-false}
 use Rattle.types.specs.Choice.{pick}
-use Rattle.types.specs.Kinds.{kindCode}
+use Rattle.types.specs.Kinds.{kindCode, specialFrom, specialKnown}
+use Rattle.types.specs.Forms.{integersRead, allowedCount}
 use Rattle.types.specs.Values.{value}
 use Rattle.types.specs.Counters.{placeIn}
 use Rattle.types.specs.declared.Kind.{Kind}
@@ -20,8 +21,7 @@ use Rattle.types.proofs.Places.{place-within, place-same}
 use Rattle.reader.specs.Strings.{startOf, stringScratch, scratchNeeded}
 use Rattle.reader.specs.Raw.{rawBytes}
 use Rattle.reader.proofs.Strings.{start-within, scratch-read}
-use Rattle.little.specs.Counts.{counts}
-use Rattle.integer.specs.Integers.{allowedCount, intOf, uintOf, integerOf}
+use Rattle.integer.specs.Integers.{intOf, uintOf, integerOf}
 use Rattle.integer.proofs.Counts.{each}
 use Rattle.integer.proofs.RoundTrip.{int-value, uint-value}
 use Rattle.binary.specs.Formats.{Meaning, finite, infinite, nan, meaning}
@@ -30,9 +30,10 @@ use Rattle.float.specs.Floats.{floatOf, layoutAt}
 use Rattle.float.specs.Values.{floatValue}
 use Rattle.float.proofs.Counts.{Allowed, two, four, eight}
 use Rattle.float.proofs.Stored.{float-means}
-use Rattle.promises.specs.Told.{integerTold, floatTold, valueTold, meaningTold}
-use Rattle.promises.specs.Held.{bitsAt, intHeld, uintHeld, integerHeld, floatHeld, copied}
+use Rattle.promises.specs.Told.{integerTold, nucleusTold, floatTold, valueTold, meaningTold}
+use Rattle.promises.specs.Held.{bitsAt, specialHeld, intHeld, uintHeld, integerHeld, floatHeld, copied}
 use Rattle.promises.specs.Entries.{rawCount}
+use Rattle.atom.specs.Atoms.{specialNucleus}
 
 -- a place past the source is its end
 pub outside : (n at : ℕ) → n < at → placeIn n at ≡ n
@@ -44,14 +45,14 @@ module _ (n : ℕ) (h : allowedCount n ≡ true) (v : ℕ) where
   int-told : integerTold (intOf n v) ≡ intHeld n v
   unfolding intOf
   int-told =
-      each (λ m. integerTold (intOf m v) ≡ pos 1 ∷ pos (bitsAt m) ∷ value (intOf m v) ∷ []) counts
+      each (λ m. integerTold (intOf m v) ≡ pos 1 ∷ pos (bitsAt m) ∷ value (intOf m v) ∷ []) integersRead
       (refl, (refl, (refl, (refl, (refl, (refl, (refl, tt))))))) n h
       ∙ ap (λ (z : ℤ). pos 1 ∷ pos (bitsAt n) ∷ z ∷ []) (int-value n h v)
 
   uint-told : integerTold (uintOf n v) ≡ uintHeld n v
   unfolding uintOf
   uint-told =
-      each (λ m. integerTold (uintOf m v) ≡ pos 0 ∷ pos (bitsAt m) ∷ value (uintOf m v) ∷ []) counts
+      each (λ m. integerTold (uintOf m v) ≡ pos 0 ∷ pos (bitsAt m) ∷ value (uintOf m v) ∷ []) integersRead
       (refl, (refl, (refl, (refl, (refl, (refl, (refl, tt))))))) n h
       ∙ ap (λ (z : ℤ). pos 0 ∷ pos (bitsAt n) ∷ z ∷ []) (uint-value n h v)
 
@@ -77,6 +78,18 @@ float-told c b a = by a (ap meaningTold (float-means c b a) ∙ plain-told (mean
     by (two e) h = let k = rw e at h in rw e (ap (λ (l : List ℤ). pos 32 ∷ l) k)
     by (four e) h = let k = rw e at h in rw e (ap (λ (l : List ℤ). pos 32 ∷ l) k)
     by (eight e) h = let k = rw e at h in rw e (ap (λ (l : List ℤ). pos 64 ∷ l) k)
+
+-- ---- specials
+
+pub special-told : (n : ℕ) → n < 7 → specialHeld n ≡ nucleusTold (specialNucleus (specialKnown (specialFrom n)))
+special-told zero h = refl
+special-told (suc zero) h = refl
+special-told (suc (suc zero)) h = refl
+special-told (suc (suc (suc zero))) h = refl
+special-told (suc (suc (suc (suc zero)))) h = refl
+special-told (suc (suc (suc (suc (suc zero))))) h = refl
+special-told (suc (suc (suc (suc (suc (suc zero)))))) h = refl
+special-told (suc (suc (suc (suc (suc (suc (suc n))))))) h = absurd (omega arith)
 
 -- ---- lent buffers
 

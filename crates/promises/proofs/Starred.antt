@@ -7,6 +7,7 @@ use lib.IntN.{pos, negsuc}
 use lib.ListN.{replicate}
 use lib.Ieee.{ofInt, size}
 use Rattle.types.specs.Kinds.{kindCode}
+use Rattle.types.specs.Forms.{listed}
 use Rattle.types.specs.declared.Way.the-variants as W
 use Rattle.types.specs.declared.Kind.the-variants as K
 use Rattle.types.specs.declared.Integer.the-variants as I
@@ -16,15 +17,15 @@ use Rattle.header.specs.Header.{laterCount, laterValue}
 use Rattle.header.specs.Signature.{versionRead, versionFrom, bigEndian, everyBit}
 use Rattle.little.specs.Le.{toLE, fromLE, numberAt}
 use Rattle.little.specs.Twos.{twos, twosBits}
-use Rattle.little.specs.Counts.{holdsS, holdsU, firstThat, shortestS, shortestU, listed}
-use Rattle.integer.specs.Integers.{integerFrom, integerBody, intOf, uintOf}
+use Rattle.little.specs.Counts.{holdsS, holdsU, firstThat, shortestS, shortestU}
+use Rattle.integer.specs.Integers.{integerBody, intOf, uintOf}
 use Rattle.writers.specs.Bytes.{signedBytes, integerBytes}
 use Rattle.binary.specs.Formats.{single, finite, meaning, smallests}
 use Rattle.binary.specs.Floats.{floatMeaning}
 use Rattle.binary.specs.Conversions.{packed, narrowed}
 use Rattle.float.specs.Bytes.{floatBytes, f32Bytes}
 use Rattle.cast.specs.Casts.{asF32, cast}
-use Rattle.atom.specs.Atoms.{atomRead, integerAfter}
+use Rattle.atom.specs.Atoms.{atomRead, judged}
 use Rattle.promises.specs.Told.{told, toldHeader, toldVersion, toldAtom, toldAsF32, nucleusTold, meaningTold}
 
 pub record Starred : Type 0 where
@@ -74,9 +75,9 @@ pub record Starred : Type 0 where
 
 pub starred : Starred
 unfolding headerBytes laterBytes headerFrom headerLength headerArgument laterCount laterValue versionFrom bigEndian
-    everyBit toLE fromLE numberAt twos twosBits holdsS holdsU firstThat shortestS shortestU listed integerFrom
-    integerBody intOf uintOf signedBytes integerBytes meaning smallests packed narrowed floatBytes f32Bytes cast
-    atomRead integerAfter ofInt size floatMeaning
+    everyBit toLE fromLE numberAt twos twosBits holdsS holdsU firstThat shortestS shortestU listed integerBody intOf
+    uintOf signedBytes integerBytes meaning smallests packed narrowed floatBytes f32Bytes cast atomRead judged ofInt
+    size floatMeaning
 starred = record {
   uint-15 = refl;
   uint-16 = refl;

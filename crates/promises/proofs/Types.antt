@@ -10,6 +10,8 @@ use Rattle.types.proofs.Refusal.no_room as refusal-no-room
 use Rattle.types.proofs.Refusal.no_room.Reads as refusal-no-room-reads
 use Rattle.types.proofs.Refusal.number as refusal-number
 use Rattle.types.proofs.Refusal.number.Reads as refusal-number-reads
+use Rattle.types.proofs.Refusal.unsupported as refusal-unsupported
+use Rattle.types.proofs.Refusal.unsupported.Reads as refusal-unsupported-reads
 use Rattle.types.proofs.Special.code as special-code
 use Rattle.types.proofs.Special.code.Reads as special-code-reads
 use Rattle.types.proofs.Special.try_from as special-try-from
@@ -46,3 +48,6 @@ refusal-number-one κs a r₁ r₂ s₁ s₂ p q = (p ∙ sym q, refl)
 
 pub refusal-no-room-one : One refusal-no-room.ended refusal-no-room-reads.Post (λ κs s. tt {0})
 refusal-no-room-one κs a r₁ r₂ s₁ s₂ p q = (p ∙ sym q, refl)
+
+pub refusal-unsupported-one : One refusal-unsupported.ended refusal-unsupported-reads.Post (λ κs s. tt {0})
+refusal-unsupported-one κs a r₁ r₂ s₁ s₂ p q = (p ∙ sym q, refl)

@@ -14,7 +14,7 @@ use Rattle.types.specs.Values.{value, wideOf}
 use Rattle.types.specs.declared.Integer.{Integer}
 use Rattle.types.specs.declared.Float.{Float}
 use Rattle.types.specs.declared.Float.the-variants as F
-use Rattle.binary.specs.Formats.{single, signWeight, Meaning, finite, infinite, nan, meaning, Number}
+use Rattle.binary.specs.Formats.{single, signWeight, Meaning, finite, infinite, nan, meaning, NotNan}
 use Rattle.binary.specs.Floats.{floatMeaning}
 use Rattle.cast.specs.Variants.{sign, width, inRange, equalIntegers}
 use Rattle.cast.specs.Variants as Variants
@@ -147,7 +147,7 @@ pub record IntegralRows (x : Float) : Type 0 where
 pub record InSingle (x : Ieee.Float) : Type 0 where
   pub pattern : ℕ
   pub in-format : pattern < 2 * signWeight single
-  pub is-number : Number (meaning single pattern)
+  pub is-number : NotNan (meaning single pattern)
   pub same-meaning : meaning single pattern ≡ floatMeaning x
 
 -- "`as_f32` of an F64 needs an equal value."
@@ -190,7 +190,7 @@ pub record EqualIntegerRows (a b : Integer) : Type 0 where
 -- IEEE 754 a NaN equals nothing
 pub record EqualFloatRows (a b : Float) : Type 0 where
   pub same :
-      Number (floatMeans a) →
+      NotNan (floatMeans a) →
       floatMeans a ≡ floatMeans b →
       equalFloats a b ≡ true
   pub zeros : (s t : Bool) →
@@ -199,5 +199,5 @@ pub record EqualFloatRows (a b : Float) : Type 0 where
       equalFloats a b ≡ true
   pub only :
       equalFloats a b ≡ true →
-      (Number (floatMeans a) × (floatMeans a ≡ floatMeans b))
+      (NotNan (floatMeans a) × (floatMeans a ≡ floatMeans b))
       ⊎ ((s : Bool) × (t : Bool) × (floatMeans a ≡ finite s 0) × (floatMeans b ≡ finite t 0))

@@ -12,6 +12,7 @@ use lib.ListN.{length, take, drop}
 use Rattle.types.specs.Ways.{exact}
 use Rattle.types.specs.Counters.{placeIn}
 use Rattle.types.specs.Kinds.{kindCode, kindFrom, specialFrom}
+use Rattle.types.specs.Forms.{allowedCount, allowedFloat}
 use Rattle.types.specs.declared.Way.{Way}
 use Rattle.types.specs.declared.Kind.{Kind}
 use Rattle.types.specs.declared.Kind.the-variants as K
@@ -23,8 +24,8 @@ use Rattle.reader.specs.Strings.{startOf, stringAnswer, stringScratch, stringMa
 use Rattle.reader.specs.Parts.{markedBytes}
 use Rattle.reader.specs.Raw.{rawAnswer, rawBuffer, rawExactly, rawExactlyBuffer}
 use Rattle.little.specs.Le.{numberAt}
-use Rattle.integer.specs.Integers.{integerKind, allowedCount, integerRead}
-use Rattle.float.specs.Floats.{floatKind, allowedFloat, floatRead}
+use Rattle.integer.specs.Integers.{integerKind, integerRead}
+use Rattle.float.specs.Floats.{floatKind, floatRead}
 use Rattle.writers.specs.Bytes.{heldAnswer, heldContent}
 use Rattle.atom.specs.Charges.{budgetAfter}
 use Rattle.dictionary.specs.Runs.{tallyAll, mostBytes}

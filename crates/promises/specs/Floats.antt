@@ -9,6 +9,7 @@ use lib.ListN.{length}
 use lib.Ieee.{Format, ofBits}
 use Rattle.types.specs.Counters.{placeIn}
 use Rattle.types.specs.Kinds.{kindCode}
+use Rattle.types.specs.Forms.{allowedFloat, countOf, chargeOf}
 use Rattle.types.specs.declared.Way.{Way}
 use Rattle.types.specs.declared.Kind.the-variants as K
 use Rattle.types.specs.declared.Place.{Place}
@@ -18,13 +19,11 @@ use Rattle.types.specs.declared.Integer.{Integer}
 use Rattle.header.specs.Header.{headerRead}
 use Rattle.reader.specs.Strings.{startOf}
 use Rattle.little.specs.Le.{numberAt}
-use Rattle.binary.specs.Formats.{Layout, half, single, double, nan, meaning, Number, SameValue}
+use Rattle.binary.specs.Formats.{Layout, half, single, double, nan, meaning, NotNan, SameValue}
 use Rattle.binary.specs.Conversions.{widened, narrowed, answer16, answer32}
 use Rattle.binary.specs.Floats.{floatMeaning, plain, layoutOf}
-use Rattle.float.specs.Floats.{allowedFloat, floatRead}
-use Rattle.atom.specs.Charges.{countOf}
+use Rattle.float.specs.Floats.{floatRead}
 use Rattle.atom.specs.Atoms.{atomRead}
-use Rattle.dictionary.specs.Wholes.{chargeOf}
 use Rattle.promises.specs.Told.{Told, told, toldFloat, toldAtom, toldNarrowed16, toldNarrowed32}
 use Rattle.promises.specs.Held.{floatHeld}
 use Rattle.promises.specs.Rows.{Good}
@@ -63,10 +62,10 @@ pub record Ieee754 : Type 0 where
       ∷ floatHeld (countOf arg) (numberAt (countOf arg) s (next .0)))
   -- widening keeps a number
   pub widens-half : (bits : ℕ) →
-      Number (meaning half bits) →
+      NotNan (meaning half bits) →
       meaning single (widened half single bits) ≡ meaning half bits
   pub widens-single : (bits : ℕ) →
-      Number (meaning single bits) →
+      NotNan (meaning single bits) →
       meaning double (widened single double bits) ≡ meaning single bits
   -- of a NaN, "sign kept, exponent all ones, quiet bit set, fraction shifted up by 13", "by 29"
   pub nan-half : (bits : ℕ) (s : Bool) (t : ℕ) →

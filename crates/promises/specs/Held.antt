@@ -7,6 +7,7 @@ use lib.IntN.{ℤ, pos}
 use lib.ListN.{take, drop}
 use Rattle.types.specs.Choice.{pick}
 use Rattle.types.specs.Kinds.{kindCode}
+use Rattle.types.specs.Forms.{countOf}
 use Rattle.types.specs.declared.Way.{Way}
 use Rattle.types.specs.declared.Kind.{Kind}
 use Rattle.types.specs.declared.Kind.the-variants as K
@@ -15,7 +16,6 @@ use Rattle.little.specs.Le.{numberAt}
 use Rattle.little.specs.Twos.{twos}
 use Rattle.binary.specs.Formats.{meaning}
 use Rattle.float.specs.Floats.{layoutAt}
-use Rattle.atom.specs.Charges.{countOf}
 use Rattle.promises.specs.Told.{meaningTold, markTold}
 
 -- "Read results are I8, I16, I32 (3 and 4 bytes), I64 (6 and 8), I128, and the same for U": how many bits wide

@@ -15,6 +15,7 @@ use Rattle.types.specs.Choice.{pick}
 use Rattle.types.specs.Ways.{exact}
 use Rattle.types.specs.Counters.{placeIn}
 use Rattle.types.specs.Kinds.{kindCode}
+use Rattle.types.specs.Forms.{countOf, known, bodyLength, chargeOf, isString}
 use Rattle.types.specs.declared.Way.{Way}
 use Rattle.types.specs.declared.Kind.{Kind}
 use Rattle.types.specs.declared.Kind.the-variants as K
@@ -24,8 +25,6 @@ use Rattle.types.specs.declared.Refusal.the-variants as R
 use Rattle.types.specs.declared.HeaderAnswer.{HeaderAnswer}
 use Rattle.types.specs.declared.HeaderAnswer.the-variants as H
 use Rattle.reader.specs.Strings.{scratchNeeded}
-use Rattle.atom.specs.Charges.{countOf}
-use Rattle.dictionary.specs.Wholes.{known, bodyLength, chargeOf, isString}
 use Rattle.promises.specs.Told.{Told, told}
 use Rattle.promises.specs.Held.{held, copied}
 

@@ -9,11 +9,11 @@ use lib.ListN.{length, drop}
 use lib.Seq.{drop-length}
 use borrow.Author.Tests.{le-leb}
 use Rattle.types.specs.Counters.{placeIn}
+use Rattle.types.specs.Forms.{listed, allowedCount}
 use Rattle.types.proofs.Places.{place-same}
 use Rattle.types.specs.declared.Kind.{Kind}
 use Rattle.types.specs.declared.Kind.the-variants as K
-use Rattle.little.specs.Counts.{listed}
-use Rattle.integer.specs.Integers.{integerKind, allowedCount, integerFrom, integerBody}
+use Rattle.integer.specs.Integers.{integerKind, integerFrom, integerBody}
 use Rattle.reader.proofs.Strings.{lent-read, lent-eof}
 use Rattle.slice_reader.specs.Left.{leftBytes}
 use Rattle.slice_reader.specs.Given.{integerGiven, integerPlace, stringGiven, stringPlace}
@@ -61,6 +61,6 @@ integer-leaves s kind count e f h =
     simp (e, f, starts s, le-leb (0 + count) (length s) m) (ap (λ (k : ℕ). drop k s) (place-same (length s) (0 + count) m ∙ z))
 
 -- one byte, read as an integer of one byte
-pub byte-leaves : (b : ℕ) → leftBytes (b ∷ []) (integerPlace (integerGiven (b ∷ []) K.UInt 1)) ≡ []
+pub byte-leaves : (b : ℕ) (s : List ℕ) → leftBytes (b ∷ s) (integerPlace (integerGiven (b ∷ s) K.UInt 1)) ≡ s
 unfolding listed
-byte-leaves b = integer-leaves (b ∷ []) K.UInt 1 refl refl (omega arith)
+byte-leaves b s = integer-leaves (b ∷ s) K.UInt 1 refl refl (omega arith)

@@ -60,3 +60,8 @@ specialFrom n =
     (pick (eqb n 4) (SA.Known S.Named)
     (pick (eqb n 5) (SA.Known S.DynamicMap)
     (pick (eqb n 6) (SA.Known S.DynamicEnd) (SA.Refused (R.UnknownSpecial n))))))))
+
+-- the special that such an answer holds; DynamicEnd of a refusal, which no argument below 7 gives
+abbrev pub specialKnown : SpecialAnswer → Special
+specialKnown (SA.Known special) = special
+specialKnown (SA.Refused r) = S.DynamicEnd

@@ -1,5 +1,6 @@
 pub mod Choice
 pub mod Kinds
+pub mod Forms
 pub mod Ways
 pub mod Counters
 pub mod Refusals

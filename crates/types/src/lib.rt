@@ -5,6 +5,7 @@
 ghost use mathlib.Core.Path.{_≡_};
 ghost use Prim.Native.Nat.{_≤_, _<_};
 ghost use Rattle.types.specs.Kinds.{kindCode, kindFrom, specialCode, specialFrom};
+ghost use Rattle.types.specs.Forms.{unsupported};
 ghost use Rattle.types.specs.Refusals.{refusalNumber, noRoom};
 ghost use Rattle.types.specs.Ways.{exact, unnamedWay};
 ghost use Rattle.types.specs.Counters.{placeIn};
@@ -406,5 +407,12 @@ impl Refusal {
         ensures { λ r. ⌜ r ≡ noRoom needed ⌝ }
     {
         return Refusal::NoRoom;
+    }
+
+    // Refusal 6, of a number of a kind that is not read with so many bytes: its one home.
+    pub fn unsupported(kind: Kind, count: u64) -> Refusal
+        ensures { λ r. ⌜ r ≡ unsupported kind count ⌝ }
+    {
+        return Refusal::UnsupportedByteCount(kind, count);
     }
 }

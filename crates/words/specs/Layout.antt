@@ -38,7 +38,7 @@ use Rattle.types.specs.declared.AsF32.{AsF32}
 use Rattle.types.specs.declared.AsF32.the-variants as F32
 use Rattle.types.specs.declared.AsF64.{AsF64}
 use Rattle.types.specs.declared.AsF64.the-variants as F64
-use Rattle.binary.specs.Conversions.{Narrowed, exact, lost}
+use Rattle.binary.specs.Conversions.{Narrowed, kept, lost}
 use Rattle.types.specs.declared.Refusal.the-variants as R
 use Rattle.binary.specs.Formats.{half, single}
 use Rattle.binary.specs.Conversions.{widened}
@@ -181,5 +181,5 @@ saidAsF64 (F64.Refused r) = saidRefused r
 
 -- "`as_f32` of an F64 needs an equal value": its bits, or refusal 8
 unfoldable pub saidNarrowed : Narrowed → Said
-saidNarrowed (exact q) = saidWord q
+saidNarrowed (kept q) = saidWord q
 saidNarrowed lost = saidRefused R.ImpreciseCastWouldLoseData

@@ -11,12 +11,13 @@ use lib.Signed.{mag}
 use borrow.Author.Tests.{lt-ltb, le-ltb, leb-true}
 use Rattle.types.specs.Choice.{pick}
 use Rattle.types.specs.Kinds.{kindCode}
+use Rattle.types.specs.Forms.{integersWritten}
 use Rattle.types.specs.declared.Kind.{Kind}
 use Rattle.types.specs.declared.Kind.the-variants as K
 use Rattle.header.proofs.Answers.{bytes-one}
 use Rattle.little.specs.Le.{toLE}
 use Rattle.little.specs.Twos.{twosBits}
-use Rattle.little.specs.Counts.{counts, firstThat, holdsU, holdsS, shortestU, shortestS}
+use Rattle.little.specs.Counts.{firstThat, holdsU, holdsS, shortestU, shortestS}
 use Rattle.little.proofs.Two.{mag-held, mag-not-held, holdsU-more, holdsS-more, low-bytes}
 use Rattle.writers.specs.Bytes.{integerBytes, signedBytes, unsignedBytes}
 
@@ -31,11 +32,11 @@ lastBelow n m (c ∷ cs) = pick (ltb c n) (lastBelow n c cs) m
 
 -- the count before n, or 0
 abbrev pub smaller : ℕ → ℕ
-smaller n = lastBelow n 0 counts
+smaller n = lastBelow n 0 integersWritten
 
 -- n is a count
 abbrev pub Count : ℕ → Type 0
-Count n = (above (smaller n) counts ≡ n ∷ above n counts) × (0 < n) × (n ≤ 16)
+Count n = (above (smaller n) integersWritten ≡ n ∷ above n integersWritten) × (0 < n) × (n ≤ 16)
 
 -- where a test fails up to m, the first that passes is the first above m that does
 first-above-at : (p : ℕ → Bool) (m c : ℕ) (cs : List ℕ) (t : Bool) → leb c m ≡ t → ((d : ℕ) → d ≤ m → p d ≡ false) →
@@ -75,10 +76,10 @@ number-bytes kind n bits first count e =
 module _ (n : ℕ) (count : Count n) where
   -- a test that n passes and the count before it does not, and that whatever is above a number that passes does too
   shortest : (p : ℕ → Bool) → ((d e : ℕ) → d ≤ e → p d ≡ true → p e ≡ true) → p (smaller n) ≡ false → p n ≡ true →
-      firstThat p counts ≡ n
+      firstThat p integersWritten ≡ n
   unfolding firstThat
   shortest p more past h =
-      let none = first-above p (smaller n) (λ d l. not-both (p d) (λ y. sym (more d (smaller n) l y) ∙ past)) counts in
+      let none = first-above p (smaller n) (λ d l. not-both (p d) (λ y. sym (more d (smaller n) l y) ∙ past)) integersWritten in
       none ∙ ap (firstThat p) (count .0) ∙ simp h
 
   -- what is stored: the header byte, and the n lowest bytes of what w bytes hold for the value

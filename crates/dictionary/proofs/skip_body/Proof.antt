@@ -14,7 +14,8 @@ skip-body-spec =
     tie.close
     (tie.spec
     (λ c. search kind-ends) (λ c. search kind-ends) (λ c. search kind-ends) (λ c. search kind-ends)
-    (λ c. search kind-ends) (λ c. search kind-ends) (λ c. search kind-ends) returns-4 returns-5
+    (λ c. search kind-ends) (λ c. search kind-ends) (λ c. search kind-ends) (λ c κs. search kind-ends)
+    (λ c. search kind-ends) returns-4 (λ c. search kind-ends) returns-5 (λ c κs. search kind-ends)
+    (λ c κs. search kind-ends) (λ c κs. search kind-ends) (λ c. search kind-ends) (λ c. search kind-ends)
     (λ c κs. search kind-ends) (λ c κs. search kind-ends) (λ c κs. search kind-ends) (λ c. search kind-ends)
-    (λ c. search kind-ends) (λ c κs. search kind-ends) (λ c κs. search kind-ends) (λ c κs. search kind-ends)
-    (λ c. search kind-ends) (λ c. search kind-ends) (λ c κs. search kind-ends) (λ c. search kind-ends))
+    (λ c. search kind-ends) (λ c κs. search kind-ends) (λ c. search kind-ends))

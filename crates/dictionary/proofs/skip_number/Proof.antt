@@ -8,4 +8,4 @@ skip-number-spec =
     tie.close
     (tie.spec
     (λ c κs. search body-ends) (λ c. search body-ends) (λ c. search body-ends) (λ c. search body-ends)
-    (λ c. search body-ends) (λ c. search body-ends) (λ c. search body-ends))
+    (λ c. search body-ends) (λ c. search body-ends) (λ c κs. search body-ends) (λ c. search body-ends))

@@ -22,6 +22,6 @@ pub read-at-spec : {M : Type 1} → statement M
 read-at-spec =
     tie.close
     (tie.spec
-    (λ c κs. search read-ends) returns (λ c κs. search read-ends) returns-2 (λ c. search read-ends)
-    (λ c κs. search read-ends) (λ c. search read-ends) (λ c κs. search read-ends) returns-3 (λ c κs. search read-ends)
-    returns-4 (λ c κs. search read-ends) (λ c κs. search read-ends) returns-5)
+    (λ c κs. search read-ends) returns (λ c κs. search read-ends) (λ c κs. search read-ends) returns-2
+    (λ c. search read-ends) (λ c κs. search read-ends) (λ c. search read-ends) (λ c κs. search read-ends) returns-3
+    (λ c κs. search read-ends) returns-4 (λ c κs. search read-ends) (λ c κs. search read-ends) returns-5)

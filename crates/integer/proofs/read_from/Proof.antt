@@ -19,6 +19,6 @@ pub read-from-spec : {M : Type 1} → statement M
 read-from-spec =
     tie.close
     (tie.spec
-    (λ c κs. search read-ends) (λ c κs. search read-ends) returns (λ c κs. search read-ends) returns-2
-    (λ c. search read-ends) (λ c. search read-ends) (λ c κs. search read-ends) (λ c. search read-ends)
+    (λ c κs. search read-ends) (λ c κs. search read-ends) returns (λ c κs. search read-ends) (λ c κs. search read-ends)
+    returns-2 (λ c. search read-ends) (λ c. search read-ends) (λ c κs. search read-ends) (λ c. search read-ends)
     (λ c κs. search read-ends) returns-4 (λ c κs. search read-ends) returns-5)
