@@ -1,5 +1,5 @@
--- The laws of widening and narrowing that other crates cite. W is one of `half-single`, `single-double` and
--- `half-double` of `Widths`.
+-- The laws of widening and narrowing that other crates cite. W is `half-single` or `single-double`
+-- of `Widths`.
 use mathlib.Core.Path.{_≡_, refl, sym, ap, _∙_, subst}
 use mathlib.Core.Bool.{Bool, false≢true}
 use Prim.Native.Nat.{ℕ, suc, _+_, _-_, _*_, _%_, _^_, _≤_, _<_}
@@ -9,7 +9,7 @@ use lib.Pow.{pow-pos}
 use Rattle.binary.specs.Formats.{Layout, leading, signWeight, allOnes, negative, exponent, fraction, unit}
 use Rattle.binary.specs.Formats.{smallests, magnitude, finite, infinite, nan, meaning, NotNan, SameValue}
 use Rattle.binary.specs.Conversions.{withSign, infinity, quieted, widened, Narrowed, kept, lost, narrowedMeaning}
-use Rattle.binary.specs.Conversions.{narrowed, Narrows, through, answer16, answer32}
+use Rattle.binary.specs.Conversions.{narrowed, Narrows, answer16, answer32}
 use Rattle.binary.specs.declared.Narrowed16 as N16
 use Rattle.binary.specs.declared.Narrowed32 as N32
 use Rattle.binary.proofs.Patterns.{rest-lt, signed-lt, fraction-lt, meaning-signed, meant-finite, meant-nan}
@@ -83,13 +83,7 @@ module _ {narrow wide : Layout} {lift more : ℕ} (W : Widens narrow wide lift m
   pub widened-keeps : (b : ℕ) → NotNan (meaning narrow b) → meaning wide (widened narrow wide b) ≡ meaning narrow b
   widened-keeps b n = widened-number b (reading narrow b) n .1
 
-  -- ---- there and back
-
-  pub narrowed-widened : (b : ℕ) → b < 2 * signWeight narrow → NotNan (meaning narrow b) →
-      narrowed wide narrow (widened narrow wide b) ≡ kept b
-  narrowed-widened b B n =
-      narrowed-complete wide narrow (widened narrow wide b) b
-      (B, subst NotNan (sym (widened-keeps b n)) n, sym (widened-keeps b n))
+  -- ---- and back
 
   pub widened-narrowed : (b q : ℕ) → b < 2 * signWeight wide → narrowed wide narrow b ≡ kept q →
       widened narrow wide q ≡ b
@@ -97,24 +91,6 @@ module _ {narrow wide : Layout} {lift more : ℕ} (W : Widens narrow wide lift m
       let v = narrowed-sound wide narrow b q h in
       let n : NotNan (meaning narrow q) = subst NotNan (sym (v .2)) (v .1) in
       one-pattern wide (widened narrow wide q) b (widened-lt q n) B (widened-keeps q n ∙ v .2)
-
-  -- Narrowing in two steps is narrowing: a value of the narrow format is one of the format between.
-  step : (from : Layout) (b : ℕ) (n : Narrowed) → Narrows from wide b n →
-      Narrows from narrow b (through n (narrowed wide narrow))
-  step from b (kept m) v = go (narrowed wide narrow m) (narrows wide narrow m)
-    where
-      go : (k : Narrowed) → Narrows wide narrow m k → Narrows from narrow b k
-      go (kept q) u = (u .0, v .1, u .2 ∙ v .2)
-      go lost u = λ q t. u q (t .0, subst NotNan (sym (v .2)) (v .1), t .2 ∙ sym (v .2))
-  step from b lost v = λ q t.
-      let n : NotNan (meaning narrow q) = subst NotNan (sym (t .2)) (t .1) in
-      v (widened narrow wide q) (widened-lt q n, t .1, widened-keeps q n ∙ t .2)
-
-  pub narrowed-through : (from : Layout) (b : ℕ) →
-      narrowed from narrow b ≡ through (narrowed from wide b) (narrowed wide narrow)
-  narrowed-through from b =
-      one-answer from narrow b (narrowed from narrow b) (through (narrowed from wide b) (narrowed wide narrow))
-      (narrows from narrow b) (step from b (narrowed from wide b) (narrows from wide b))
 
 -- ---- a NaN's bits
 
@@ -141,21 +117,6 @@ widened-nan from to b s t p h =
     ∙ meant-nan to s (allOnes to) u refl
     (quieted-pos (2 ^ (to .fractionBits - 1))
     (t * 2 ^ (to .fractionBits - from .fractionBits) % 2 ^ (to .fractionBits - 1)) (pow-pos (to .fractionBits - 1)))
-
--- a widened pattern, a NaN's too, is one of the wider format
-pub widened-in : {narrow wide : Layout} {lift more : ℕ} (W : Widens narrow wide lift more) → 0 < wide .fractionBits →
-    (b : ℕ) → widened narrow wide b < 2 * signWeight wide
-widened-in {narrow} {wide} W p b = go (reading narrow b)
-  where
-    go : Reading narrow b → widened narrow wide b < 2 * signWeight wide
-    go (is-finite e m) = widened-lt W b (subst NotNan (sym m) tt)
-    go (is-infinite e z m) = widened-lt W b (subst NotNan (sym m) tt)
-    go (is-nan e n m) =
-        let s = negative narrow b in
-        let x = fraction narrow b * 2 ^ (wide .fractionBits - narrow .fractionBits) in
-        rw (widened-by narrow wide b (nan s (fraction narrow b)) m)
-        (signed-lt wide s (infinity wide + quieted wide x)
-        (rest-lt wide (allOnes wide) (quieted wide x) (le-of-eq refl) (quieted-lt (wide .fractionBits) x p)))
 
 -- ---- from the code's answers to the definition's
 

@@ -70,11 +70,6 @@ abbrev pub Narrows : Layout → Layout → ℕ → Narrowed → Type 0
 Narrows from to b (kept q) = SameValue from to b q
 Narrows from to b lost = (q : ℕ) → SameValue from to b q → ⊥
 
--- a narrowing after a narrowing
-abbrev pub through : Narrowed → (ℕ → Narrowed) → Narrowed
-through (kept q) then = then q
-through lost then = lost
-
 -- the code's answers
 abbrev pub answer16 : Narrowed → N16.Narrowed16
 answer16 (kept q) = N16.the-variants.Pattern q

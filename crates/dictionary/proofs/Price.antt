@@ -439,7 +439,7 @@ spoilt-other l why (cut-body h k m) e = false≢true cc
 never-five-at : (s : List ℕ) (place : Place) (t : Bool) → ltb mostBytes (length s) ≡ t →
     tallyAll s ≡ TA.Stopped place R.TooManyBytesRead → ⊥
 never-five-at s place true h e =
-    let x : TA.Stopped (record { 0 = 0 }) R.TooLong ≡ TA.Stopped place R.TooManyBytesRead = rw h at e in false≢true cc
+    let x : TA.Refused R.TooLong ≡ TA.Stopped place R.TooManyBytesRead = rw h at e in false≢true cc
 never-five-at s place false h e =
     let short = ltb-false mostBytes (length s) h in
     ⊎-elim
@@ -475,7 +475,7 @@ agree-at : (s : List ℕ) (t : Tallied) (budget : ℕ) (l : Bool) → ltb mostBy
     t .charge ≤ budget →
     runAll s (record { 0 = budget }) ≡ RN.Done (record { 0 = length s }) (record { 0 = budget - t .charge }) (t .atoms)
 agree-at s t budget true h e c =
-    let x : TA.Stopped (record { 0 = 0 }) R.TooLong ≡ TA.Done t = rw h at e in absurd (false≢true cc)
+    let x : TA.Refused R.TooLong ≡ TA.Done t = rw h at e in absurd (false≢true cc)
 agree-at s t budget false h e c =
     let short = ltb-false mostBytes (length s) h in
     ⊎-elim

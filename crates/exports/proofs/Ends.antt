@@ -238,12 +238,9 @@ unfolding saidWritten
 refused-said r b e = ap saidWritten e
 
 -- the way that names none reads as the way that it is
-module _ (way same : Way) (s : List ℕ) (place : ℕ) (e : way ≡ same) where
-  pub atom-by : (budget : Budget) (t : List ℕ) → atomRead way s place budget t ≡ atomRead same s place budget t
-  atom-by budget t = ap (λ (w : Way). atomRead w s place budget t) e
-
-  pub version-by : versionRead way s place ≡ versionRead same s place
-  version-by = ap (λ (w : Way). versionRead w s place) e
+pub version-by : (way same : Way) (s : List ℕ) (place : ℕ) → way ≡ same →
+    versionRead way s place ≡ versionRead same s place
+version-by way same s place e = ap (λ (w : Way). versionRead w s place) e
 
 -- an integer, a kind and a special that came in or did not
 module _ (X : Type 0) (refused : Refusal → X) (a : X) where
@@ -261,7 +258,7 @@ module _ (X : Type 0) (refused : Refusal → X) (a : X) where
 
 pub ruleset alike = (word-said, atom-said, skipped-said, ran-said, tally-said, version-said, integer-said)
 
-pub ruleset say-ends = (number-said, words-said, alike, atom-by, version-by, needs)
+pub ruleset say-ends = (number-said, words-said, alike, version-by, needs)
 
 pub ruleset cast-ends = (number-said, words-said, cast-said, f32-said, f64-said, of-integer, needs)
 

@@ -52,14 +52,15 @@ fn granted(words: usize, room: usize) -> usize
     room
 }
 
-// Reads an atom under a way: the one place that calls the reader.
+// Reads an atom under a way: the one place that calls the reader. The words stand first, so that they go in registers:
+// where a caller laid their address and number on the stack one by one, to pass both on in one move would have to wait.
 fn read_by(
+    words: &mut [u64],
     source: &[u8],
+    scratch: &mut [u8],
     place: usize,
     budget: u64,
-    scratch: &mut [u8],
     way: Way,
-    words: &mut [u64],
 ) -> u64
     ensures { λ r. ⌜ r ≡ numberOf (saidAtom (atomRead way (now (source .entry)) place (record { 0 = budget }) (now (scratch .entry)))) (now (words .entry)) ⌝ }
     ensures { λ r. ⌜ now (words .exit) ≡ wordsOf (saidAtom (atomRead way (now (source .entry)) place (record { 0 = budget }) (now (scratch .entry)))) (now (words .entry)) ⌝ }
@@ -75,8 +76,7 @@ pub extern "C" fn pot_read_atom(source: &[u8], place: usize, budget: u64, words:
     ensures { λ r. ⌜ r ≡ numberOf (saidAtom (atomRead unnamedWay (now (source .entry)) place (record { 0 = budget }) [])) (now (words .entry)) ⌝ }
     ensures { λ r. ⌜ now (words .exit) ≡ wordsOf (saidAtom (atomRead unnamedWay (now (source .entry)) place (record { 0 = budget }) [])) (now (words .entry)) ⌝ }
 {
-    let mut scratch = [0u8; 0];
-    read_by(source, place, budget, &mut scratch, Way::unnamed(), words)
+    words::say_atom(words, atom::read_atom(source, Place(place), Budget(budget)))
 }
 
 // Reads an atom exactly; a string is lent.
@@ -91,7 +91,7 @@ pub extern "C" fn pot_read_atom_exact(
     ensures { λ r. ⌜ now (words .exit) ≡ wordsOf (saidAtom (atomRead ExactLent (now (source .entry)) place (record { 0 = budget }) [])) (now (words .entry)) ⌝ }
 {
     let mut scratch = [0u8; 0];
-    read_by(source, place, budget, &mut scratch, Way::ExactLent, words)
+    read_by(words, source, &mut scratch, place, budget, Way::ExactLent)
 }
 
 // Reads an atom exactly; a string is copied into scratch.
@@ -109,12 +109,12 @@ pub extern "C" fn pot_read_atom_copied(
 {
     let room = granted(words.len(), scratch.len());
     read_by(
+        words,
         source,
+        &mut scratch[0..room],
         place,
         budget,
-        &mut scratch[0..room],
         Way::ExactCopied,
-        words,
     )
 }
 

@@ -48,8 +48,8 @@ module _ (s zeros held : List ℕ) (h : held ≡ copiedOver s (take (length s - 
 pub ruleset block-ends = (block-room, back-room, back-copied, needs)
 
 -- in two parts: the first bytes are copied, and then those from a place among them on
-module _ (s old begun : List ℕ) (count : ℕ) (is : begun ≡ copiedOver (take (count - 0) s) old) (within : count ≤ length s)
-    (room : length s ≤ length old) where
+module _ (s old begun : List ℕ) (count : ℕ) (is : begun ≡ copiedOver (take (count - 0) s) old)
+    (within : count ≤ length s) (room : length s ≤ length old) where
   counted : length (take (count - 0) s) ≡ count
   counted = let m = length-take-le (count - 0) s (omega arith) in omega arith
 

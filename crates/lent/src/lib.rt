@@ -32,8 +32,8 @@ fn copy_each(out: &mut [u8], source: &[u8])
     }
 }
 
-// Copies a source of at most 4,096 bytes that has its room, by way of a block of its own: nothing else lies over that, so
-// the two loops are compiled to one call of the system's copy, and to plain moves where the length is known beforehand.
+// Copies a source of at most 4,096 bytes that has its room, by way of a block of its own: nothing else lies over that,
+// so the two loops are compiled to one call of the system's copy, or to plain moves where the length is known before.
 fn copy_piece(out: &mut [u8], source: &[u8])
     requires { ⌜ length (now source) ≤ 4096 ⌝ }
     requires { ⌜ length (now source) ≤ length (now out) ⌝ }
@@ -93,8 +93,8 @@ fn copy_short(out: &mut [u8], source: &[u8])
     copy_ends(out, source, 8);
 }
 
-// Copies a source of any length that has its room: as one piece, or else its halves. It calls itself, so that it stays out
-// of line: a loop would be inlined and unrolled, at the cost of the short copies.
+// Copies a source of any length that has its room: as one piece, or else its halves. It calls itself, so that it stays
+// out of line: a loop would be inlined and unrolled, at the cost of the short copies.
 fn copy_halves(out: &mut [u8], source: &[u8])
     requires { ⌜ length (now source) ≤ length (now out) ⌝ }
     ensures { λ r. ⌜ now (out .exit) ≡ copiedOver (now (source .entry)) (now (out .entry)) ⌝ }
@@ -109,8 +109,8 @@ fn copy_halves(out: &mut [u8], source: &[u8])
     copy_halves(&mut out[half..], &source[half..]);
 }
 
-// Copies a source that has its room: a helper of readers and writers, which judge the room of the whole first. The parts
-// that the last call lends are the whole; they are made there alone, where a pair of pointers goes by the stack.
+// Copies a source that has its room: a helper of readers and writers, which judge the room of the whole first. The last
+// call lends both anew, whole, so that they are laid on the stack for it there and not on every way.
 pub fn copy_in(out: &mut [u8], source: &[u8])
     requires { ⌜ length (now source) ≤ length (now out) ⌝ }
     ensures { λ r. ⌜ now (out .exit) ≡ copiedOver (now (source .entry)) (now (out .entry)) ⌝ }

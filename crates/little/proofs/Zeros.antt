@@ -1,5 +1,5 @@
--- Filled reading is reading the source with zeros after it: they change no byte and no number. A block of the bytes at a
--- place, filled up with zeros, has the numbers that stand there; then the loop that fills such a block.
+-- Filled reading is reading the source with zeros after it: they change no byte and no number. A block of the bytes at
+-- a place, filled up with zeros, has the numbers that stand there; then the loop that fills such a block.
 use mathlib.Core.Path.{_≡_, refl, _∙_, sym, ap}
 use mathlib.Core.List.{List, [], _∷_, _++_, append-nil}
 use Prim.Native.Nat.{ℕ, zero, suc, _+_, _≤_, _<_}
@@ -7,6 +7,7 @@ use native.Mathlib.Omega.{arith}
 use borrow.Author.Needs.{needs}
 use lib.ListN.{length, take, drop, getD, set, replicate, length-append, length-replicate, drop-of-length-le}
 use lib.Seq.{length-take-le, getD-take, getD-drop, take-take}
+use Rattle.lent.specs.Lent.{copiedOver}
 use Rattle.lent.proofs.Ends.{Copying, copy-begins, copy-turn, copy-ends}
 use Rattle.little.specs.Le.{fromLE, numberAt, filledAt}
 use Rattle.little.proofs.At.{number-more, number-none}
@@ -85,6 +86,7 @@ module _ (n : ℕ) (s : List ℕ) (at : ℕ) where
         }
 
     pub fill-ends : n ≤ i → block ≡ filledAt n s at
+    unfolding copiedOver
     fill-ends h =
         let long = filled-length n s at in
         let room = length-replicate {A = ℕ} n 0 in

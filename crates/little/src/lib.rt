@@ -83,8 +83,8 @@ pub fn byte_at(s: &[u8], at: usize, i: usize) -> u64
     0
 }
 
-// The 16 bytes at a place, those past the end zero. Filled reading of a number is reading it in this block, where all its
-// bytes are there, by the functions that read it in a source.
+// The 16 bytes at a place, those past the end zero. Filled reading of a number is reading it in this block, where all
+// its bytes are there, by the functions that read it in a source.
 pub fn filled(s: &[u8], at: usize) -> [u8; 16]
     ensures { λ r. ⌜ r ≡ filledAt 16 (now (s .entry)) at ⌝ }
 {

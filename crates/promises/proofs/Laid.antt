@@ -46,6 +46,7 @@ pub tally-number : (a : TallyAnswer) → saidTally a .number ≡ toldTally a .nu
 unfolding saidTally
 tally-number (TA.Done t) = refl
 tally-number (TA.Stopped start r) = refl
+tally-number (TA.Refused r) = refl
 
 pub version-number : (a : VersionAnswer) → saidVersion a .number ≡ toldVersion a .number
 unfolding saidVersion

@@ -204,5 +204,5 @@ pub record HeldRows (held : Bool) (bytes old : List ℕ) : Type 0 where
 
 -- "10 TooLong: tally input over 16,777,216 bytes; its program over 65,536"
 pub record LengthRows (s : List ℕ) : Type 0 where
-  pub tally-ten : mostBytes < length s → toldTally (tallyAll s) ≡ told 10 (pos 0 ∷ [])
+  pub tally-ten : mostBytes < length s → toldTally (tallyAll s) ≡ told 10 []
   pub program-ten : mostFileBytes < length s → toldReport (reportOf s) ≡ told 10 (pos 0 ∷ [])

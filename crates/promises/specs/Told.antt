@@ -149,6 +149,7 @@ tallyTold t = pos (t .atoms) ∷ pos (t .body .0) ∷ pos (t .charge) ∷ pos (t
 
 abbrev pub toldTally : TallyAnswer → Told
 toldTally (TA.Stopped start r) = refused (pos (start .0) ∷ []) r
+toldTally (TA.Refused r) = refused [] r
 toldTally (TA.Done t) = taken (tallyTold t)
 
 -- an integer by its variant, signed or not and so many bits wide, and its value

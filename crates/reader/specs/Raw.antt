@@ -35,8 +35,3 @@ rawExactly way s place buffer =
 -- on a refusal "buffers keep their bytes"
 unfoldable pub rawExactlyBuffer : Way → List ℕ → ℕ → List ℕ → List ℕ
 rawExactlyBuffer way s place buffer = pick (exact way && runsOut s place (length buffer)) buffer (rawBuffer s place buffer)
-
--- the place after a raw read
-abbrev pub rawPlace : RawAnswer → ℕ
-rawPlace (RA.Read p n) = p .0
-rawPlace (RA.Refused p r) = p .0

@@ -122,6 +122,7 @@ letters-within atom w = letters-cases (isString (headerKind atom)) atom (headerL
 abbrev Within : ℕ → TallyAnswer → Type 0
 Within n (TA.Done t) = Small t
 Within n (TA.Stopped start r) = start .0 ≤ n
+Within n (TA.Refused r) = 0 ≤ n
 
 made-small : (s : List ℕ) (m : Made s) → length s ≤ 65_532 → Small (priced (m .atoms))
 made-small s m h =
@@ -174,6 +175,7 @@ answered-most file version (TA.Done t) h v w =
     counted-most version (length (afterSignature file)) t v (omega (arith, length-drop 4 file)) w
 answered-most file version (TA.Stopped start r) h v w =
     refused-most r (4 + start .0) (omega (arith, w, length-drop 4 file))
+answered-most file version (TA.Refused r) h v w = refused-most r 0 (omega arith)
 
 signed-most : (file : List ℕ) (a : VersionAnswer) → length file ≤ 65_536 → versionOf a < 256 →
     length (reportText (reportAfter file a)) ≤ 79

@@ -1,6 +1,6 @@
-// The test of reader.rs, `slice_reader_pub_methods`, over two bytes: one reader is held from the first byte to the end, as
-// the original holds it, and what each read answers is taken out of what the read gave. A byte is read as an integer of one
-// byte, as `read_exact` into one byte does.
+// The test of reader.rs, `slice_reader_pub_methods`, over two bytes: one reader is held from the first byte to the end,
+// as the original holds it, and what each read answers is taken out of what the read gave. A byte is read as an integer
+// of one byte, as `read_exact` into one byte does.
 ghost use mathlib.Core.Path.{_≡_};
 ghost use Rattle.slice_reader_main.specs.Held.{heldOver};
 use libc::STDOUT_FILENO;
@@ -9,8 +9,8 @@ use types::Integer;
 use types::IntegerAnswer;
 use types::Kind;
 
-// What a reader that is held over two reads says: how many bytes it has to read before them, what each read answers, and how
-// many bytes it has to read after them, and whether there are none.
+// What a reader that is held over two reads says: how many bytes it has to read before them, what each read answers,
+// how many bytes it has to read after them, and whether there are none.
 struct Held {
     before: usize,
     first: IntegerAnswer,

@@ -133,10 +133,12 @@ unfoldable pub saidRan : Ran → Said
 saidRan (RN.Done p b atoms) = says 0 (p .0) (b .0) atoms 0 0 0 0 0
 saidRan (RN.Stopped p b atoms r start) = says (refusalNumber r) (p .0) (b .0) atoms (start .0) (datum 0 r) (datum 1 r) 0 0
 
--- a tally: atoms, body bytes, charge, letters; or where the refused atom starts, and the refusal's data
+-- a tally: atoms, body bytes, charge, letters; or where the refused atom starts, 0 where the input is refused as a whole,
+-- and the refusal's data
 unfoldable pub saidTally : TallyAnswer → Said
 saidTally (TA.Done t) = says 0 (t .atoms) (t .body .0) (t .charge) (t .letters) 0 0 0 0
 saidTally (TA.Stopped start r) = says (refusalNumber r) (start .0) (datum 0 r) (datum 1 r) 0 0 0 0 0
+saidTally (TA.Refused r) = says (refusalNumber r) 0 (datum 0 r) (datum 1 r) 0 0 0 0 0
 
 -- a signature: place and version, or place
 unfoldable pub saidVersion : VersionAnswer → Said

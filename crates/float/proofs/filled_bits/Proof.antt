@@ -3,7 +3,10 @@ use Rattle.float.proofs.Ends.{block-ends}
 use Rattle.float.proofs.filled_bits.Statement.{statement}
 use Rattle.float.proofs.filled_bits.Tie as tie
 
+returns : tie.Need-returns
+returns c = search block-ends
+
 pub filled-bits-spec : {M : Type 1} → statement M
 filled-bits-spec =
     tie.close
-    (tie.spec (λ c κs. search block-ends) (λ c. search block-ends) (λ c κs. search block-ends) (λ c. search block-ends))
+    (tie.spec (λ c κs. search block-ends) (λ c. search block-ends) (λ c κs. search block-ends) returns)
