@@ -4,9 +4,10 @@ use mathlib.Core.Bool.{Bool, true, false}
 use mathlib.Core.List.{List, [], _∷_, _++_, append-nil}
 use Prim.Native.Nat.{ℕ, _-_, _≤_, _<_}
 use native.Mathlib.Omega.{arith}
-use borrow.Author.Needs.{needs}
+use borrow.Author.Needs.{needs, zero≤, sfits-of}
 use borrow.Author.Tests.{lt-ltb, le-ltb}
 use lib.Dec.{ltb}
+use mir.Facts.{toZ-ofZ}
 use lib.ListN.{length, take, drop}
 use lib.Seq.{take-length, drop-length}
 use Rattle.types.specs.Choice.{pick}
@@ -238,9 +239,12 @@ unfolding saidWritten
 refused-said r b e = ap saidWritten e
 
 -- the way that names none reads as the way that it is
-pub version-by : (way same : Way) (s : List ℕ) (place : ℕ) → way ≡ same →
-    versionRead way s place ≡ versionRead same s place
-version-by way same s place e = ap (λ (w : Way). versionRead w s place) e
+module _ (way same : Way) (s : List ℕ) (place : ℕ) (e : way ≡ same) where
+  pub atom-by : (budget : Budget) (t : List ℕ) → atomRead way s place budget t ≡ atomRead same s place budget t
+  atom-by budget t = ap (λ (w : Way). atomRead w s place budget t) e
+
+  pub version-by : versionRead way s place ≡ versionRead same s place
+  version-by = ap (λ (w : Way). versionRead w s place) e
 
 -- an integer, a kind and a special that came in or did not
 module _ (X : Type 0) (refused : Refusal → X) (a : X) where
@@ -256,18 +260,21 @@ module _ (X : Type 0) (refused : Refusal → X) (a : X) where
       a ≡ ofSpecial taken refused i
   of-special taken i j k e f q = q ∙ ap (ofSpecial taken refused) (sym f ∙ e)
 
+-- Of the toolchain's `needs` an export has these few; with all of them a wrong answer is searched for half as long again.
+pub ruleset few = (tt, zero≤, toZ-ofZ, sfits-of)
+
 pub ruleset alike = (word-said, atom-said, skipped-said, ran-said, tally-said, version-said, integer-said)
 
-pub ruleset say-ends = (number-said, words-said, alike, version-by, needs)
+pub ruleset say-ends = (number-said, words-said, alike, atom-by, version-by, few)
 
-pub ruleset cast-ends = (number-said, words-said, cast-said, f32-said, f64-said, of-integer, needs)
+pub ruleset cast-ends = (number-said, words-said, cast-said, f32-said, f64-said, of-integer, few)
 
 pub ruleset lent = (within, written-number, written-words, written-left)
 
-pub ruleset write-ends = (lent, needs)
+pub ruleset write-ends = (lent, few)
 
-pub ruleset held-ends = (within, held-number, held-words, held-left, needs)
+pub ruleset held-ends = (within, held-number, held-words, held-left, few)
 
-pub ruleset copy-ends = (within, atom-number, atom-words, atom-left, needs)
+pub ruleset copy-ends = (within, atom-number, atom-words, atom-left, few)
 
-pub ruleset code-ends = (lent, number-said, words-said, unwritten, refused-said, of-integer, of-kind, of-special, needs)
+pub ruleset code-ends = (lent, number-said, words-said, unwritten, refused-said, of-integer, of-kind, of-special, few)

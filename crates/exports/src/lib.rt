@@ -76,7 +76,8 @@ pub extern "C" fn pot_read_atom(source: &[u8], place: usize, budget: u64, words:
     ensures { λ r. ⌜ r ≡ numberOf (saidAtom (atomRead unnamedWay (now (source .entry)) place (record { 0 = budget }) [])) (now (words .entry)) ⌝ }
     ensures { λ r. ⌜ now (words .exit) ≡ wordsOf (saidAtom (atomRead unnamedWay (now (source .entry)) place (record { 0 = budget }) [])) (now (words .entry)) ⌝ }
 {
-    words::say_atom(words, atom::read_atom(source, Place(place), Budget(budget)))
+    let mut scratch = [0u8; 0];
+    read_by(words, source, &mut scratch, place, budget, Way::unnamed())
 }
 
 // Reads an atom exactly; a string is lent.
