@@ -231,9 +231,6 @@ f32-said a b e = ap saidAsF32 e
 pub f64-said : (a b : AsF64) → a ≡ b → saidAsF64 a ≡ saidAsF64 b
 f64-said a b e = ap saidAsF64 e
 
-pub written-said : (a b c : Written) → a ≡ b → b ≡ c → saidWritten a ≡ saidWritten c
-written-said a b c e f = ap saidWritten (e ∙ f)
-
 pub refused-said : (r : Refusal) (b : Written) → W.Refused r ≡ b → saidRefused r ≡ saidWritten b
 unfolding saidWritten
 refused-said r b e = ap saidWritten e
