@@ -19,6 +19,7 @@ pub mod Words
 pub mod Recast
 pub mod Exports
 pub mod Laid
+pub mod FloatWords
 pub mod Exactly
 pub mod Filled
 pub mod Held
