@@ -36,7 +36,7 @@ use Rattle.types.specs.declared.Way.{Way}
 use Rattle.types.specs.declared.Way.the-variants as WY
 use Rattle.types.specs.declared.Written.{Written}
 use Rattle.types.specs.declared.Written.the-variants as W
-use Rattle.lent.specs.Lent.{writtenAnswer, writtenContent}
+use Rattle.lent.specs.Lent.{writtenAnswer, writtenContent, copiedOver}
 use Rattle.lent.proofs.Stores.{content-short}
 use Rattle.header.specs.Header.{headerRead}
 use Rattle.reader.specs.Strings.{stringOf, runsOut, copiedScratch}
@@ -73,6 +73,7 @@ kept false old = refl
 
 -- a writer or a reader that is lent nothing leaves nothing
 unwritten-empty : (bytes : List ℕ) → writtenContent bytes [] ≡ []
+unfolding copiedOver
 unwritten-empty [] = refl
 unwritten-empty (b ∷ bs) = content-short (b ∷ bs) [] (omega arith)
 
