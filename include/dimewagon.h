@@ -94,7 +94,8 @@ uint64_t pot_skip_atom(const uint8_t *source, size_t source_len, size_t place, u
 uint64_t pot_run(const uint8_t *source, size_t source_len, uint64_t budget, uint64_t *words, size_t words_len);
 
 /* Counts all atoms of a source, which has no signature, exactly and without a budget. Words: atoms, body bytes, charge,
- * letters; or where the refused atom starts, and the data. A letter is a string's byte outside 0x80 to 0xBF. */
+ * letters; or where the refused atom starts, and the data. An input that is too long is refused as a whole: it has no place,
+ * and its words are zeros. A letter is a string's byte outside 0x80 to 0xBF. */
 uint64_t pot_tally(const uint8_t *source, size_t source_len, uint64_t *words, size_t words_len);
 
 /* Writers. Each writes to the first bytes of `out`, in the fewest, or nothing. Words: how many bytes, or the data. */

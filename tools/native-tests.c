@@ -5,6 +5,7 @@
 
 static int failed;
 static uint64_t words[POT_WORDS];
+static uint8_t zeros[16777217];
 
 /* Compares what was answered, and the first words, with what is wanted; the other words are 0. */
 static void expect(int line, uint64_t number, uint64_t wanted, const uint64_t *first, size_t count)
@@ -56,6 +57,8 @@ static void refusals(void)
     EXPECT(pot_integer_cast(POT_U8, POT_I16, 5, 0, words, POT_WORDS), POT_IMPRECISE_CAST_WOULD_LOSE_DATA, 0);
     EXPECT(pot_write_u16(out, 2, 300, words, POT_WORDS), POT_NO_ROOM, 0);
     EXPECT(pot_tally(out, 0, words, POT_WORDS), 0, 0);
+    EXPECT(pot_tally(zeros, sizeof zeros - 1, words, POT_WORDS), 0, 16777216);
+    EXPECT(pot_tally(zeros, sizeof zeros, words, POT_WORDS), POT_TOO_LONG, 0);
     if (memcmp(out, "\t\t\t\t", 4) != 0)
         failed = 1;
 }

@@ -286,7 +286,8 @@ pub struct Tally {
     pub letters: u64,
 }
 
-/// Counts all atoms of a source, which has no signature, exactly and without a budget.
+/// Counts all atoms of a source, which has no signature, exactly and without a budget. An input of more than 16,777,216
+/// bytes is refused as a whole.
 ///
 /// ```
 /// let tally = dimewagon::tally(&[0xE3, 0x6E, 0xC3, 0xA9, 0x41, 0x2C, 0x01])?;

@@ -102,18 +102,23 @@ impl fmt::Display for Refusal {
 
 impl Error for Refusal {}
 
-/// A refusal, and where the refused atom starts. Its text has both, so it names no source.
+/// A refusal, and where the refused atom starts. Its text has both, or the refusal alone where there is no place, so it
+/// names no source.
 #[derive(Clone, Copy, Debug, PartialEq, Eq, Hash)]
 #[non_exhaustive]
 pub struct Refused {
     /// Why.
     pub refusal: Refusal,
-    /// Where the refused atom starts; 0 of a signature, or of an input that is too long.
+    /// Where the refused atom starts; 0 of a signature. An input that is too long, [`Refusal::TooLong`], has no place:
+    /// there this is 0 and says nothing.
     pub start: usize,
 }
 
 impl fmt::Display for Refused {
     fn fmt(&self, f: &mut fmt::Formatter<'_>) -> fmt::Result {
+        if self.refusal == Refusal::TooLong {
+            return self.refusal.fmt(f);
+        }
         write!(f, "refusal {} at {}: ", self.refusal.number(), self.start)?;
         self.refusal.reason(f)
     }

@@ -51,6 +51,9 @@ fn whole_files() {
     let tally = |bytes: &[u8]| asked(|w, n| unsafe { pot_tally(bytes.as_ptr(), bytes.len(), w, n) });
     assert_eq!(tally(&body), (0, [5, 10, 11, 2, 0, 0, 0, 0, OLD]));
     assert_eq!(tally(&[0x40, 0x00, 0x24]), (6, [2, 1, 5, 0, 0, 0, 0, 0, OLD]));
+    let long = vec![0; 16_777_217];
+    assert_eq!(tally(&long[1..]), (0, [16_777_216, 0, 0, 0, 0, 0, 0, 0, OLD]));
+    assert_eq!(tally(&long), (10, [0, 0, 0, 0, 0, 0, 0, 0, OLD]));
     let skip = asked(|w, n| unsafe { pot_skip_atom(body.as_ptr(), body.len(), 0, 9, w, n) });
     assert_eq!(skip, (0, [4, 6, 1, 1, 0, 0, 0, 0, OLD]));
 }
@@ -60,6 +63,13 @@ fn no_room_for_the_words() {
     let mut words = [OLD; 7];
     let mut out = [9u8; 4];
     let number = unsafe { pot_write_u8(out.as_mut_ptr(), out.len(), 1, words.as_mut_ptr(), words.len()) };
+    assert_eq!((number, words, out), (9, [OLD; 7], [9; 4]));
+    let number = unsafe { pot_write_special(out.as_mut_ptr(), out.len(), 1, words.as_mut_ptr(), words.len()) };
+    assert_eq!((number, words, out), (9, [OLD; 7], [9; 4]));
+    let (source, count) = ([0xE2, 0x61, 0x62], words.len());
+    let number = unsafe {
+        pot_read_atom_copied(source.as_ptr(), 3, 0, 9, out.as_mut_ptr(), out.len(), words.as_mut_ptr(), count)
+    };
     assert_eq!((number, words, out), (9, [OLD; 7], [9; 4]));
 }
 

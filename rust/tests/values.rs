@@ -37,6 +37,7 @@ fn errors_of_each_function_become_one() {
     assert_eq!(load(&[0x42, 0, 0, 1]).unwrap_err().to_string(), "refusal 8: the cast would lose data");
     let stopped = read_atom_exact(&[0x07], 0, 0).unwrap_err();
     assert_eq!(Refused::from(stopped), tally(&[0x07]).unwrap_err());
+    assert_eq!(load(&vec![0; 16_777_217]).unwrap_err().to_string(), "refusal 10: the input is too long");
 }
 
 #[test]

@@ -67,6 +67,7 @@ fn tally(text: &[u8], cursor: Cursor, bytes: &mut [u8], out: &mut [u8]) -> Reply
         TallyAnswer::Stopped(start, refusal) => {
             return wire::refused_at(out, reply, start, refusal);
         }
+        TallyAnswer::Refused(refusal) => return wire::refused(out, reply, refusal),
     }
 }
 

@@ -31,7 +31,7 @@ use Rattle.reader.specs.Strings.{startOf}
 use Rattle.reader.proofs.Strings.{start-within}
 use Rattle.atom.specs.Charges.{budgetAfter}
 use Rattle.atom.specs.Atoms.{atomRead, atomFrom, atomAfter, charged, judged, bodyTaken}
-use Rattle.atom.proofs.Numbers.{Number, integers, floats, numberTaken, integer-taken, float-taken}
+use Rattle.atom.proofs.Numbers.{NumberForm, integers, floats, numberTaken, integer-taken, float-taken}
 use Rattle.atom.proofs.Forward.{atomPlace, after-on}
 
 -- what exact reading takes within the source, filled reading takes too
@@ -54,7 +54,7 @@ module _ (s : List ℕ) (budget : Budget) (scratch : List ℕ) (p : Place) (b : 
   -- what follows a header: a number, and what has no other bytes
   module _ (arg : ℕ) (next : Place) where
     module _ (rest : Budget) where
-      number-filled : (n : Number) (exactly filled : AtomAnswer) → exactly ≡ numberTaken n W.ExactLent s arg next rest →
+      number-filled : (n : NumberForm) (exactly filled : AtomAnswer) → exactly ≡ numberTaken n W.ExactLent s arg next rest →
           filled ≡ numberTaken n W.Filled s arg next rest → exactly ≡ A.Read p b x → filled ≡ A.Read p b x
       number-filled n exactly filled f g e =
           g

@@ -49,11 +49,6 @@ module _ (kind : Kind) (arg : ℕ) (next : Place) (budget : Budget) (body : Budg
   judged-dear r e = cc (too-many budget (chargeOf kind arg) r e)
 
   module _ (rest : Budget) (left : budgetAfter budget (chargeOf kind arg) ≡ BA.Left rest) where
-    pub judged-unknown : known kind arg ≡ false →
-        A.Refused next rest (unknown kind arg) ≡ judged kind arg next budget body
-    unfolding judged
-    judged-unknown k = cc
-
     pub judged-left : known kind arg ≡ true → body rest ≡ judged kind arg next budget body
     unfolding judged
     judged-left k = cc

@@ -50,7 +50,7 @@ use Rattle.atom.specs.Charges.{budgetAfter}
 use Rattle.atom.specs.Atoms.{atomOf, specialNucleus, judged, headerTaken, specialTaken, integerTaken, floatTaken}
 use Rattle.atom.specs.Atoms.{bytesTaken, atomAfter, scratchAfter, atomRead, atomScratch}
 use Rattle.atom.proofs.Answers.{too-many, free, judged-dear}
-use Rattle.atom.proofs.Numbers.{Number, Means, integers, floats, integer-means, float-means, numberAfter}
+use Rattle.atom.proofs.Numbers.{NumberForm, Means, integers, floats, integer-means, float-means, numberAfter}
 use Rattle.atom.proofs.Numbers.{integer-number, float-number}
 
 -- what a number costs in memory
@@ -108,7 +108,7 @@ pub float-made : (arg count bits : ℕ) (value : Float) → value ≡ floatOf co
 float-made arg count bits value v = cc
 
 -- a number, once its header is read and its charge judged
-module _ (n : Number) (way : Way) (s : List ℕ) (arg : ℕ) (next : Place) (budget : Budget) where
+module _ (n : NumberForm) (way : Way) (s : List ℕ) (arg : ℕ) (next : Place) (budget : Budget) where
   module _ (count charge : ℕ) (paid : BudgetAnswer) (m : Means n arg) (c : count ≡ countOf arg)
       (h : charge ≡ numberCharge count) (p : paid ≡ budgetAfter budget charge) where
     -- the charge exceeds the budget

@@ -35,7 +35,7 @@ use Rattle.reader.proofs.Strings.{start-within, start-same}
 use Rattle.reader.proofs.Delivered.{string-forward}
 use Rattle.atom.specs.Atoms.{atomRead, atomFrom, atomAfter, charged, judged, bytesAtom, headerTaken, bytesTaken}
 use Rattle.atom.specs.Atoms.{bodyTaken}
-use Rattle.atom.proofs.Numbers.{Number, integers, floats, numberTaken, integer-taken, float-taken}
+use Rattle.atom.proofs.Numbers.{NumberForm, integers, floats, numberTaken, integer-taken, float-taken}
 
 -- the place and the budget after, refused or not
 abbrev pub atomPlace : AtomAnswer → ℕ
@@ -93,7 +93,7 @@ module _ (way : Way) (s : List ℕ) (arg : ℕ) (next : Place) (budget : Budget)
         Onward (next .0) (length s) (budget .0) (headerTaken kind arg next nucleus rest)
     header-on kind nucleus = record { not-back = le-refl (next .0); not-past = h; not-up = l }
 
-    number-on : (n : Number) → Onward (next .0) (length s) (budget .0) (numberTaken n way s arg next rest)
+    number-on : (n : NumberForm) → Onward (next .0) (length s) (budget .0) (numberTaken n way s arg next rest)
     number-on n = on (bodyLength (n .kind) arg) (leb (next .0 + bodyLength (n .kind) arg) (length s)) (exact way) refl _
       where
         on : (count : ℕ) (t e : Bool) → leb (next .0 + count) (length s) ≡ t → (x : Atom) →

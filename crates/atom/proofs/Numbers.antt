@@ -30,20 +30,20 @@ use Rattle.float.specs.Floats.{floatOf, floatBody}
 use Rattle.atom.specs.Atoms.{atomOf, judged, integerAtom, floatAtom, integerTaken, floatTaken}
 use Rattle.atom.proofs.Answers.{same-judged, integer-known, integer-long, integer-costs, integer-unknown}
 
-pub record Number : Type 0 where
+pub record NumberForm : Type 0 where
   pub kind : Kind
   pub allowed : ℕ → Bool
   pub nucleus : ℕ → ℕ → Nucleus
 
-abbrev pub integers : Kind → Number
+abbrev pub integers : Kind → NumberForm
 integers kind =
     record { kind = kind; allowed = allowedCount; nucleus = λ count bits. N.Integer (integerOf kind count bits) }
 
-abbrev pub floats : Number
+abbrev pub floats : NumberForm
 floats = record { kind = K.Float; allowed = allowedFloat; nucleus = λ count bits. N.Float (floatOf count bits) bits }
 
 -- what its argument means
-pub record Means (n : Number) (arg : ℕ) : Type 0 where
+pub record Means (n : NumberForm) (arg : ℕ) : Type 0 where
   pub knows : known (n .kind) arg ≡ n .allowed (countOf arg)
   pub long : bodyLength (n .kind) arg ≡ countOf arg
   pub costs : chargeOf (n .kind) arg ≡ numberCharge (countOf arg)
@@ -61,7 +61,7 @@ pub float-means : (arg : ℕ) → Means floats arg
 float-means arg = record { knows = refl; long = refl; costs = refl; refuses = refl }
 
 -- what is taken of its bytes, by the end of input
-abbrev pub numberTaken : Number → Way → List ℕ → ℕ → Place → Budget → AtomAnswer
+abbrev pub numberTaken : NumberForm → Way → List ℕ → ℕ → Place → Budget → AtomAnswer
 numberTaken n way s arg next rest =
     upTo way (length s) (next .0 + bodyLength (n .kind) arg)
     (λ p. A.Read (record { 0 = p }) rest (atomOf (n .kind) arg
@@ -69,7 +69,7 @@ numberTaken n way s arg next rest =
     (A.Refused (record { 0 = length s }) rest R.Eof)
 
 -- and the charge and the count before that
-unfoldable pub numberAfter : Number → Way → List ℕ → ℕ → Place → Budget → AtomAnswer
+unfoldable pub numberAfter : NumberForm → Way → List ℕ → ℕ → Place → Budget → AtomAnswer
 numberAfter n way s arg next budget = judged (n .kind) arg next budget (numberTaken n way s arg next)
 
 -- so the definitions have it

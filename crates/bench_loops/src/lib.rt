@@ -180,6 +180,10 @@ pub extern "C" fn loop_tally(source: &[u8], out: &mut [u64]) -> u64 {
             answer4(out, place.0 as u64, 0, 0, 0);
             return refusal.number();
         }
+        TallyAnswer::Refused(refusal) => {
+            answer4(out, 0, 0, 0, 0);
+            return refusal.number();
+        }
     }
 }
 

@@ -10,8 +10,8 @@ use lib.Pow.{pow-pos, pow-mono}
 use mir.Syntax.{Width}
 use mir.Val.{Fits, bits}
 use Rattle.binary.specs.Formats.{Layout, leading, signWeight, allOnes, negative, exponent, fraction, magnitude}
-use Rattle.binary.specs.Conversions.{signed, infinity, candidate, quieted, widened}
-use Rattle.binary.specs.Conversions.{Narrowed, exact, lost, narrowed, answer16, answer32}
+use Rattle.binary.specs.Conversions.{withSign, infinity, candidate, quieted, widened}
+use Rattle.binary.specs.Conversions.{Narrowed, kept, lost, narrowed, answer16, answer32}
 use Rattle.binary.specs.declared.Narrowed16 as N16
 use Rattle.binary.specs.declared.Narrowed32 as N32
 use Rattle.binary.proofs.Smallests.{same-parts}
@@ -31,7 +31,8 @@ digits f = suc (f .exponentBits + f .fractionBits)
 abbrev pub sign : Layout → Layout → ℕ → ℕ
 sign from to b = b / signWeight from * signWeight to
 
-sign-moved : (from to : Layout) (b r : ℕ) → b < 2 * signWeight from → sign from to b + r ≡ signed to (negative from b) r
+sign-moved : (from to : Layout) (b r : ℕ) → b < 2 * signWeight from →
+    sign from to b + r ≡ withSign to (negative from b) r
 sign-moved from to b r h =
     ap (λ (x : ℕ). x + r)
     (sign-is (signWeight from) (signWeight to) b (pow-pos (from .exponentBits + from .fractionBits)) h)
@@ -52,13 +53,13 @@ not-alone f b e n p q =
 
 -- ---- narrowing: the answer is a pattern, or none
 
-pub pattern16 : (r : ℕ) (n : Narrowed) → exact r ≡ n → N16.the-variants.Pattern r ≡ answer16 n
+pub pattern16 : (r : ℕ) (n : Narrowed) → kept r ≡ n → N16.the-variants.Pattern r ≡ answer16 n
 pattern16 r n e = ap answer16 e
 
 pub none16 : (n : Narrowed) → lost ≡ n → N16.the-variants.None ≡ answer16 n
 none16 n e = ap answer16 e
 
-pub pattern32 : (r : ℕ) (n : Narrowed) → exact r ≡ n → N32.the-variants.Pattern r ≡ answer32 n
+pub pattern32 : (r : ℕ) (n : Narrowed) → kept r ≡ n → N32.the-variants.Pattern r ≡ answer32 n
 pattern32 r n e = ap answer32 e
 
 pub none32 : (n : Narrowed) → lost ≡ n → N32.the-variants.None ≡ answer32 n
@@ -67,15 +68,15 @@ none32 n e = ap answer32 e
 module _ (narrow wide : Layout) (lift more : ℕ) (W : Widens narrow wide lift more) (b : ℕ) where
   -- a pattern with that rest is the answer
   answered : (r rest : ℕ) → b < 2 * signWeight wide →
-      narrowed wide narrow b ≡ exact (signed narrow (negative wide b) rest) →
-      r ≡ sign wide narrow b + rest → exact r ≡ narrowed wide narrow b
-  answered r rest B e q = ap exact (q ∙ sign-moved wide narrow b rest B) ∙ sym e
+      narrowed wide narrow b ≡ kept (withSign narrow (negative wide b) rest) →
+      r ≡ sign wide narrow b + rest → kept r ≡ narrowed wide narrow b
+  answered r rest B e q = ap kept (q ∙ sign-moved wide narrow b rest B) ∙ sym e
 
   -- a normal number of the narrower format, if the digits that it drops are zeros
   module _ (above : lift < exponent wide b) (under : exponent wide b < allOnes narrow + lift) where
     pub normal-exact : (r : ℕ) → b < 2 * signWeight wide → fraction wide b % 2 ^ more ≡ 0 →
         r ≡ sign wide narrow b + ((exponent wide b - lift) * leading narrow + fraction wide b / 2 ^ more) →
-        exact r ≡ narrowed wide narrow b
+        kept r ≡ narrowed wide narrow b
     normal-exact r B z q =
         answered r ((exponent wide b - lift) * leading narrow + fraction wide b / 2 ^ more) B
         (narrow-normal W b above under z) q
@@ -86,7 +87,7 @@ module _ (narrow wide : Layout) (lift more : ℕ) (W : Widens narrow wide lift m
   -- past those: the infinity, and what is too large or a NaN
   module _ (over : allOnes narrow + lift ≤ exponent wide b) where
     pub infinity-exact : (r : ℕ) → b < 2 * signWeight wide → b % signWeight wide ≡ infinity wide →
-        r ≡ sign wide narrow b + infinity narrow → exact r ≡ narrowed wide narrow b
+        r ≡ sign wide narrow b + infinity narrow → kept r ≡ narrowed wide narrow b
     infinity-exact r B i q =
         let k = alone wide b (allOnes wide) i in
         answered r (infinity narrow) B (gives-infinity wide narrow b (k .0) (k .1)) q
@@ -105,10 +106,10 @@ module _ (narrow wide : Layout) (lift more : ℕ) (W : Widens narrow wide lift m
     close-by : lift < exponent wide b + narrow .fractionBits
     close-by = omega (arith, W .deep)
 
-    abbrev kept : ℕ
-    kept = significand wide b / 2 ^ down
+    abbrev shorter : ℕ
+    shorter = significand wide b / 2 ^ down
 
-    shifted-back : kept * 2 ^ down % 2 ^ digits wide ≡ kept * 2 ^ down
+    shifted-back : shorter * 2 ^ down % 2 ^ digits wide ≡ shorter * 2 ^ down
     shifted-back =
         let s : significand wide b < 2 ^ digits wide =
         omega (arith, fraction-lt wide b, under-sign wide, pow-suc 2 (wide .exponentBits + wide .fractionBits)) in
@@ -116,9 +117,9 @@ module _ (narrow wide : Layout) (lift more : ℕ) (W : Widens narrow wide lift m
 
     pub subnormal-exact : (r : ℕ) → b < 2 * signWeight wide →
         significand wide b / 2 ^ down * 2 ^ down % 2 ^ digits wide ≡ significand wide b →
-        r ≡ sign wide narrow b + significand wide b / 2 ^ down → exact r ≡ narrowed wide narrow b
+        r ≡ sign wide narrow b + significand wide b / 2 ^ down → kept r ≡ narrowed wide narrow b
     subnormal-exact r B z q =
-        answered r kept B (narrow-subnormal W b down down-is below close-by (sym shifted-back ∙ z)) q
+        answered r shorter B (narrow-subnormal W b down down-is below close-by (sym shifted-back ∙ z)) q
 
     pub subnormal-none : (significand wide b / 2 ^ down * 2 ^ down % 2 ^ digits wide ≡ significand wide b → ⊥) →
         lost ≡ narrowed wide narrow b
@@ -128,17 +129,17 @@ module _ (narrow wide : Layout) (lift more : ℕ) (W : Widens narrow wide lift m
     pub subnormal-fits : (w : Width) (r : ℕ) → b < 2 * signWeight wide → 2 * signWeight narrow ≤ 2 ^ bits w →
         r ≡ sign wide narrow b + significand wide b / 2 ^ down → Fits w r
     subnormal-fits w r B room q =
-        let k : kept < signWeight narrow =
+        let k : shorter < signWeight narrow =
         lt-of-lt-of-le (kept-lt W b down down-is below close-by) (under-sign narrow) in
         record {
           fits = lt-of-lt-of-le
-              (rw (q, sign-moved wide narrow b kept B) (signed-lt narrow (negative wide b) kept k)) room;
+              (rw (q, sign-moved wide narrow b shorter B) (signed-lt narrow (negative wide b) shorter k)) room;
         }
 
   -- below those: zero, and what is too small
   module _ (low : exponent wide b ≤ lift - narrow .fractionBits) where
     pub zero-exact : (r : ℕ) → b < 2 * signWeight wide → b % signWeight wide ≡ 0 →
-        r ≡ sign wide narrow b → exact r ≡ narrowed wide narrow b
+        r ≡ sign wide narrow b → kept r ≡ narrowed wide narrow b
     zero-exact r B z q =
         let k = alone wide b 0 (z ∙ sym (zero-mul (leading wide))) in
         answered r 0 B (narrow-zero W b (k .0) (k .1)) (q ∙ sym (add-zero (sign wide narrow b)))
@@ -208,7 +209,7 @@ module _ (narrow wide : Layout) (lift more : ℕ) (W : Widens narrow wide lift m
 module _ (narrow wide : Layout) (lift more : ℕ) (W : Widens narrow wide lift more)
     (b : ℕ) (B : b < 2 * signWeight narrow) where
   -- a pattern with that rest is the answer
-  widened-is : (r rest : ℕ) → widened narrow wide b ≡ signed wide (negative narrow b) rest →
+  widened-is : (r rest : ℕ) → widened narrow wide b ≡ withSign wide (negative narrow b) rest →
       r ≡ sign narrow wide b + rest → r ≡ widened narrow wide b
   widened-is r rest e q = q ∙ sign-moved narrow wide b rest B ∙ sym e
 

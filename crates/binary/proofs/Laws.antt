@@ -1,5 +1,5 @@
--- The laws of widening and narrowing that other crates cite. W is one of `half-single`, `single-double` and
--- `half-double` of `Widths`.
+-- The laws of widening and narrowing that other crates cite. W is `half-single` or `single-double`
+-- of `Widths`.
 use mathlib.Core.Path.{_≡_, refl, sym, ap, _∙_, subst}
 use mathlib.Core.Bool.{Bool, false≢true}
 use Prim.Native.Nat.{ℕ, suc, _+_, _-_, _*_, _%_, _^_, _≤_, _<_}
@@ -7,9 +7,9 @@ use native.Mathlib.Nat.{add-zero, zero-mul, le-of-lt, le-of-eq, mod-lt, pow-suc}
 use native.Mathlib.Omega.{arith}
 use lib.Pow.{pow-pos}
 use Rattle.binary.specs.Formats.{Layout, leading, signWeight, allOnes, negative, exponent, fraction, unit}
-use Rattle.binary.specs.Formats.{smallests, magnitude, finite, infinite, nan, meaning, Number, SameValue}
-use Rattle.binary.specs.Conversions.{signed, infinity, quieted, widened, Narrowed, exact, lost, narrowedMeaning}
-use Rattle.binary.specs.Conversions.{narrowed, Narrows, through, answer16, answer32}
+use Rattle.binary.specs.Formats.{smallests, magnitude, finite, infinite, nan, meaning, NotNan, SameValue}
+use Rattle.binary.specs.Conversions.{withSign, infinity, quieted, widened, Narrowed, kept, lost, narrowedMeaning}
+use Rattle.binary.specs.Conversions.{narrowed, Narrows, answer16, answer32}
 use Rattle.binary.specs.declared.Narrowed16 as N16
 use Rattle.binary.specs.declared.Narrowed32 as N32
 use Rattle.binary.proofs.Patterns.{rest-lt, signed-lt, fraction-lt, meaning-signed, meant-finite, meant-nan}
@@ -21,12 +21,12 @@ use Rattle.binary.proofs.Widening.{widened-by, widens-to, widens-infini
 -- ---- narrowing, over any two layouts
 
 -- The pattern that is answered has the value.
-pub narrowed-sound : (from to : Layout) (b q : ℕ) → narrowed from to b ≡ exact q → SameValue from to b q
+pub narrowed-sound : (from to : Layout) (b q : ℕ) → narrowed from to b ≡ kept q → SameValue from to b q
 narrowed-sound from to b q h = subst (λ (n : Narrowed). Narrows from to b n) h (narrows from to b)
 
 -- Where a pattern has the value, that pattern is answered.
-pub narrowed-complete : (from to : Layout) (b q : ℕ) → SameValue from to b q → narrowed from to b ≡ exact q
-narrowed-complete from to b q v = one-answer from to b (narrowed from to b) (exact q) (narrows from to b) v
+pub narrowed-complete : (from to : Layout) (b q : ℕ) → SameValue from to b q → narrowed from to b ≡ kept q
+narrowed-complete from to b q v = one-answer from to b (narrowed from to b) (kept q) (narrows from to b) v
 
 -- Where none is answered, no pattern has the value.
 pub narrowed-lost : (from to : Layout) (b : ℕ) → narrowed from to b ≡ lost → (q : ℕ) → SameValue from to b q → ⊥
@@ -43,25 +43,25 @@ unfolding smallests
 zero-magnitude f = zero-mul (2 ^ unit f)
 
 pub narrowed-zero : (from to : Layout) (b : ℕ) (s : Bool) → 0 < allOnes to → meaning from b ≡ finite s 0 →
-    narrowed from to b ≡ exact (signed to s 0)
+    narrowed from to b ≡ kept (withSign to s 0)
 narrowed-zero from to b s o h =
-    let m : meaning to (signed to s 0) ≡ finite s 0 =
-    ap (λ (x : ℕ). meaning to (signed to s x)) (sym (add-zero (0 * leading to) ∙ zero-mul (leading to)))
+    let m : meaning to (withSign to s 0) ≡ finite s 0 =
+    ap (λ (x : ℕ). meaning to (withSign to s x)) (sym (add-zero (0 * leading to) ∙ zero-mul (leading to)))
     ∙ meaning-signed to s 0 0 (le-of-lt o) (pow-pos (to .fractionBits))
     ∙ meant-finite to s 0 0 o
     ∙ ap (finite s) (zero-magnitude to) in
-    narrowed-complete from to b (signed to s 0)
-    (signed-lt to s 0 (pow-pos (to .exponentBits + to .fractionBits)), subst Number (sym h) tt, m ∙ sym h)
+    narrowed-complete from to b (withSign to s 0)
+    (signed-lt to s 0 (pow-pos (to .exponentBits + to .fractionBits)), subst NotNan (sym h) tt, m ∙ sym h)
 
 pub narrowed-infinite : (from to : Layout) (b : ℕ) (s : Bool) → meaning from b ≡ infinite s →
-    narrowed from to b ≡ exact (signed to s (infinity to))
+    narrowed from to b ≡ kept (withSign to s (infinity to))
 unfolding narrowed
 narrowed-infinite from to b s h = ap (narrowedMeaning to) h
 
 -- ---- widening keeps the sign and the magnitude
 
 module _ {narrow wide : Layout} {lift more : ℕ} (W : Widens narrow wide lift more) where
-  widened-number : (b : ℕ) → Reading narrow b → Number (meaning narrow b)
+  widened-number : (b : ℕ) → Reading narrow b → NotNan (meaning narrow b)
       → (widened narrow wide b < 2 * signWeight wide) × (meaning wide (widened narrow wide b) ≡ meaning narrow b)
   widened-number b (is-finite e m) n =
       let k = lifted W (exponent narrow b) (fraction narrow b) e (fraction-lt narrow b) in
@@ -75,46 +75,22 @@ module _ {narrow wide : Layout} {lift more : ℕ} (W : Widens narrow wide lift m
   widened-number b (is-infinite e z m) n =
       rw (widens-infinity narrow wide b e z)
       (infinity-lt wide (negative narrow b), infinite-here wide (negative narrow b) ∙ sym m)
-  widened-number b (is-nan e z m) n = absurd (subst Number m n)
+  widened-number b (is-nan e z m) n = absurd (subst NotNan m n)
 
-  pub widened-lt : (b : ℕ) → Number (meaning narrow b) → widened narrow wide b < 2 * signWeight wide
+  pub widened-lt : (b : ℕ) → NotNan (meaning narrow b) → widened narrow wide b < 2 * signWeight wide
   widened-lt b n = widened-number b (reading narrow b) n .0
 
-  pub widened-keeps : (b : ℕ) → Number (meaning narrow b) → meaning wide (widened narrow wide b) ≡ meaning narrow b
+  pub widened-keeps : (b : ℕ) → NotNan (meaning narrow b) → meaning wide (widened narrow wide b) ≡ meaning narrow b
   widened-keeps b n = widened-number b (reading narrow b) n .1
 
-  -- ---- there and back
+  -- ---- and back
 
-  pub narrowed-widened : (b : ℕ) → b < 2 * signWeight narrow → Number (meaning narrow b) →
-      narrowed wide narrow (widened narrow wide b) ≡ exact b
-  narrowed-widened b B n =
-      narrowed-complete wide narrow (widened narrow wide b) b
-      (B, subst Number (sym (widened-keeps b n)) n, sym (widened-keeps b n))
-
-  pub widened-narrowed : (b q : ℕ) → b < 2 * signWeight wide → narrowed wide narrow b ≡ exact q →
+  pub widened-narrowed : (b q : ℕ) → b < 2 * signWeight wide → narrowed wide narrow b ≡ kept q →
       widened narrow wide q ≡ b
   widened-narrowed b q B h =
       let v = narrowed-sound wide narrow b q h in
-      let n : Number (meaning narrow q) = subst Number (sym (v .2)) (v .1) in
+      let n : NotNan (meaning narrow q) = subst NotNan (sym (v .2)) (v .1) in
       one-pattern wide (widened narrow wide q) b (widened-lt q n) B (widened-keeps q n ∙ v .2)
-
-  -- Narrowing in two steps is narrowing: a value of the narrow format is one of the format between.
-  step : (from : Layout) (b : ℕ) (n : Narrowed) → Narrows from wide b n →
-      Narrows from narrow b (through n (narrowed wide narrow))
-  step from b (exact m) v = go (narrowed wide narrow m) (narrows wide narrow m)
-    where
-      go : (k : Narrowed) → Narrows wide narrow m k → Narrows from narrow b k
-      go (exact q) u = (u .0, v .1, u .2 ∙ v .2)
-      go lost u = λ q t. u q (t .0, subst Number (sym (v .2)) (v .1), t .2 ∙ sym (v .2))
-  step from b lost v = λ q t.
-      let n : Number (meaning narrow q) = subst Number (sym (t .2)) (t .1) in
-      v (widened narrow wide q) (widened-lt q n, t .1, widened-keeps q n ∙ t .2)
-
-  pub narrowed-through : (from : Layout) (b : ℕ) →
-      narrowed from narrow b ≡ through (narrowed from wide b) (narrowed wide narrow)
-  narrowed-through from b =
-      one-answer from narrow b (narrowed from narrow b) (through (narrowed from wide b) (narrowed wide narrow))
-      (narrows from narrow b) (step from b (narrowed from wide b) (narrows from wide b))
 
 -- ---- a NaN's bits
 
@@ -142,35 +118,20 @@ widened-nan from to b s t p h =
     (quieted-pos (2 ^ (to .fractionBits - 1))
     (t * 2 ^ (to .fractionBits - from .fractionBits) % 2 ^ (to .fractionBits - 1)) (pow-pos (to .fractionBits - 1)))
 
--- a widened pattern, a NaN's too, is one of the wider format
-pub widened-in : {narrow wide : Layout} {lift more : ℕ} (W : Widens narrow wide lift more) → 0 < wide .fractionBits →
-    (b : ℕ) → widened narrow wide b < 2 * signWeight wide
-widened-in {narrow} {wide} W p b = go (reading narrow b)
-  where
-    go : Reading narrow b → widened narrow wide b < 2 * signWeight wide
-    go (is-finite e m) = widened-lt W b (subst Number (sym m) tt)
-    go (is-infinite e z m) = widened-lt W b (subst Number (sym m) tt)
-    go (is-nan e n m) =
-        let s = negative narrow b in
-        let x = fraction narrow b * 2 ^ (wide .fractionBits - narrow .fractionBits) in
-        rw (widened-by narrow wide b (nan s (fraction narrow b)) m)
-        (signed-lt wide s (infinity wide + quieted wide x)
-        (rest-lt wide (allOnes wide) (quieted wide x) (le-of-eq refl) (quieted-lt (wide .fractionBits) x p)))
-
 -- ---- from the code's answers to the definition's
 
-pub exact16 : (n : Narrowed) (q : ℕ) → answer16 n ≡ N16.the-variants.Pattern q → n ≡ exact q
-exact16 (exact r) q h = let e : r ≡ q = cc in ap exact e
-exact16 lost q h = absurd (false≢true cc)
+pub kept16 : (n : Narrowed) (q : ℕ) → answer16 n ≡ N16.the-variants.Pattern q → n ≡ kept q
+kept16 (kept r) q h = let e : r ≡ q = cc in ap kept e
+kept16 lost q h = absurd (false≢true cc)
 
 pub lost16 : (n : Narrowed) → answer16 n ≡ N16.the-variants.None → n ≡ lost
-lost16 (exact r) h = absurd (false≢true cc)
+lost16 (kept r) h = absurd (false≢true cc)
 lost16 lost h = refl
 
-pub exact32 : (n : Narrowed) (q : ℕ) → answer32 n ≡ N32.the-variants.Pattern q → n ≡ exact q
-exact32 (exact r) q h = let e : r ≡ q = cc in ap exact e
-exact32 lost q h = absurd (false≢true cc)
+pub kept32 : (n : Narrowed) (q : ℕ) → answer32 n ≡ N32.the-variants.Pattern q → n ≡ kept q
+kept32 (kept r) q h = let e : r ≡ q = cc in ap kept e
+kept32 lost q h = absurd (false≢true cc)
 
 pub lost32 : (n : Narrowed) → answer32 n ≡ N32.the-variants.None → n ≡ lost
-lost32 (exact r) h = absurd (false≢true cc)
+lost32 (kept r) h = absurd (false≢true cc)
 lost32 lost h = refl

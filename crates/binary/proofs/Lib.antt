@@ -9,4 +9,3 @@ pub mod Laws
 pub mod Nan
 pub mod Units
 pub mod Values
-pub mod Examples

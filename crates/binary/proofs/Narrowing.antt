@@ -8,8 +8,8 @@ use native.Mathlib.Omega.{arith}
 use lib.Dec.{ltb, eqb}
 use lib.Pow.{pow-pos}
 use borrow.Author.Tests.{ltb-true, eqb-true}
-use Rattle.binary.specs.Formats.{Layout, leading, signWeight, allOnes, negative, exponent, fraction, magnitude, Meaning, finite, infinite, nan, meaning, Number}
-use Rattle.binary.specs.Conversions.{signed, infinity, candidate, has, Narrowed, exact, lost, narrowedMeaning, narrowed, Narrows}
+use Rattle.binary.specs.Formats.{Layout, leading, signWeight, allOnes, negative, exponent, fraction, magnitude, Meaning, finite, infinite, nan, meaning, NotNan}
+use Rattle.binary.specs.Conversions.{withSign, infinity, candidate, has, Narrowed, kept, lost, narrowedMeaning, narrowed, Narrows}
 use Rattle.binary.proofs.Patterns.{rest-lt, signed-lt, fraction-lt, meaning-signed, meant-finite, meant-infinite, Reading, is-finite, is-infinite, is-nan, reading, one-pattern, candidate-is, has-it}
 
 pub narrowed-by : (from to : Layout) (b : ℕ) (m : Meaning) → meaning from b ≡ m → narrowed from to b ≡ narrowedMeaning to m
@@ -52,11 +52,11 @@ found f m h =
 module _ (from to : Layout) (b : ℕ) where
   pub gives : (e t : ℕ) → exponent from b < allOnes from → e < allOnes to → t < leading to
       → magnitude to e t ≡ magnitude from (exponent from b) (fraction from b)
-      → narrowed from to b ≡ exact (signed to (negative from b) (e * leading to + t))
+      → narrowed from to b ≡ kept (withSign to (negative from b) (e * leading to + t))
   gives e t F E T same =
       narrowed-by from to b (finite (negative from b) (magnitude to e t)) (finite-meaning from b F ∙ ap (finite (negative from b)) (sym same))
-      ∙ ap (λ (x : Bool). cond x (exact (signed to (negative from b) (candidate to (magnitude to e t)))) lost) (has-it to e t E T)
-      ∙ ap (λ (x : ℕ). exact (signed to (negative from b) x)) (candidate-is to e t T)
+      ∙ ap (λ (x : Bool). cond x (kept (withSign to (negative from b) (candidate to (magnitude to e t)))) lost) (has-it to e t E T)
+      ∙ ap (λ (x : ℕ). kept (withSign to (negative from b) x)) (candidate-is to e t T)
 
   pub loses : exponent from b < allOnes from
       → ((e t : ℕ) → e < allOnes to → t < leading to → magnitude to e t ≡ magnitude from (exponent from b) (fraction from b) → ⊥)
@@ -66,14 +66,14 @@ module _ (from to : Layout) (b : ℕ) where
       m : ℕ
       m = magnitude from (exponent from b) (fraction from b)
 
-      go : (x : Bool) → has to m ≡ x → cond (has to m) (exact (signed to (negative from b) (candidate to m))) lost ≡ lost
+      go : (x : Bool) → has to m ≡ x → cond (has to m) (kept (withSign to (negative from b) (candidate to m))) lost ≡ lost
       go true h = let k = found to m h in absurd (none (k .0) (k .1) (k .2) (k .3) (k .5))
-      go false h = ap (λ (x : Bool). cond x (exact (signed to (negative from b) (candidate to m))) lost) h
+      go false h = ap (λ (x : Bool). cond x (kept (withSign to (negative from b) (candidate to m))) lost) h
 
-  pub gives-infinity : exponent from b ≡ allOnes from → fraction from b ≡ 0 → narrowed from to b ≡ exact (signed to (negative from b) (infinity to))
+  pub gives-infinity : exponent from b ≡ allOnes from → fraction from b ≡ 0 → narrowed from to b ≡ kept (withSign to (negative from b) (infinity to))
   gives-infinity E Z = go (reading from b)
     where
-      go : Reading from b → narrowed from to b ≡ exact (signed to (negative from b) (infinity to))
+      go : Reading from b → narrowed from to b ≡ kept (withSign to (negative from b) (infinity to))
       go (is-infinite e z m) = narrowed-by from to b (infinite (negative from b)) m
       go (is-finite e m) = absurd (clash (exponent from b) (allOnes from) e E)
       go (is-nan e n m) = absurd (some (fraction from b) n Z)
@@ -91,20 +91,20 @@ module _ (from to : Layout) (b : ℕ) where
 
 -- ---- what it means
 
-finite-here : (f : Layout) (s : Bool) (e t : ℕ) → e < allOnes f → t < leading f → meaning f (signed f s (e * leading f + t)) ≡ finite s (magnitude f e t)
+finite-here : (f : Layout) (s : Bool) (e t : ℕ) → e < allOnes f → t < leading f → meaning f (withSign f s (e * leading f + t)) ≡ finite s (magnitude f e t)
 finite-here f s e t E T = meaning-signed f s e t (le-of-lt E) T ∙ meant-finite f s e t E
 
-pub infinite-here : (f : Layout) (s : Bool) → meaning f (signed f s (infinity f)) ≡ infinite s
+pub infinite-here : (f : Layout) (s : Bool) → meaning f (withSign f s (infinity f)) ≡ infinite s
 infinite-here f s =
-    ap (λ (x : ℕ). meaning f (signed f s x)) (sym (add-zero (infinity f)))
+    ap (λ (x : ℕ). meaning f (withSign f s x)) (sym (add-zero (infinity f)))
     ∙ meaning-signed f s (allOnes f) 0 (le-of-eq refl) (pow-pos (f .fractionBits))
     ∙ meant-infinite f s (allOnes f) 0 refl refl
 
-pub infinity-lt : (f : Layout) (s : Bool) → signed f s (infinity f) < 2 * signWeight f
+pub infinity-lt : (f : Layout) (s : Bool) → withSign f s (infinity f) < 2 * signWeight f
 infinity-lt f s = signed-lt f s (infinity f) (subst (λ (x : ℕ). x < signWeight f) (add-zero (infinity f)) (rest-lt f (allOnes f) 0 (le-of-eq refl) (pow-pos (f .fractionBits))))
 
-as-number : (x y : Meaning) → x ≡ y → Number y → Number x
-as-number x y e n = subst Number (sym e) n
+as-number : (x y : Meaning) → x ≡ y → NotNan y → NotNan x
+as-number x y e n = subst NotNan (sym e) n
 
 -- a value of the format is found, with its own pattern
 value-has : (f : Layout) (q : ℕ) (s : Bool) (m : ℕ) → meaning f q ≡ finite s m → has f m ≡ true
@@ -131,7 +131,7 @@ narrows-meaning from to b (finite s m) h = go (has to m) refl
     lacks : (x : Bool) → x ≡ false → x ≡ true → ⊥
     lacks x p q = false≢true cc
 
-    go : (x : Bool) → has to m ≡ x → Narrows from to b (cond (has to m) (exact (signed to s (candidate to m))) lost)
+    go : (x : Bool) → has to m ≡ x → Narrows from to b (cond (has to m) (kept (withSign to s (candidate to m))) lost)
     go true e =
         let k = found to m e in
         rw (e, k .4) (
@@ -141,14 +141,14 @@ narrows-meaning from to b (finite s m) h = go (has to m) refl
         )
     go false e = rw e (λ q v. lacks (has to m) e (value-has to q s m (v .2 ∙ h)))
 narrows-meaning from to b (infinite s) h = (infinity-lt to s, as-number (meaning from b) (infinite s) h tt, infinite-here to s ∙ sym h)
-narrows-meaning from to b (nan s t) h = λ q v. subst Number h (v .1)
+narrows-meaning from to b (nan s t) h = λ q v. subst NotNan h (v .1)
 
 -- narrowing answers exactly if a pattern of the narrower format has the sign and the magnitude, and gives that one
 pub narrows : (from to : Layout) (b : ℕ) → Narrows from to b (narrowed from to b)
 narrows from to b = subst (λ (n : Narrowed). Narrows from to b n) (sym (narrowed-by from to b (meaning from b) refl)) (narrows-meaning from to b (meaning from b) refl)
 
 pub one-answer : (from to : Layout) (b : ℕ) (x y : Narrowed) → Narrows from to b x → Narrows from to b y → x ≡ y
-one-answer from to b (exact q) (exact r) h k = ap exact (one-pattern to q r (h .0) (k .0) (h .2 ∙ sym (k .2)))
-one-answer from to b (exact q) lost h k = absurd (k q h)
-one-answer from to b lost (exact r) h k = absurd (h r k)
+one-answer from to b (kept q) (kept r) h k = ap kept (one-pattern to q r (h .0) (k .0) (h .2 ∙ sym (k .2)))
+one-answer from to b (kept q) lost h k = absurd (k q h)
+one-answer from to b lost (kept r) h k = absurd (h r k)
 one-answer from to b lost lost h k = refl

@@ -16,7 +16,7 @@ use lib.Pow.{pow-add, pow-pos}
 use borrow.Author.Tests.{lt-ltb, le-leb, lt-leb, eq-eqb, ne-eqb, leb-true, leb-false}
 use Rattle.binary.specs.Formats.{Layout, leading, signWeight, allOnes, unit, negative, exponent, fraction}
 use Rattle.binary.specs.Formats.{smallests, magnitude, Meaning, finite, infinite, nan, meaning}
-use Rattle.binary.specs.Conversions.{signed, infinity, packed, candidate, has}
+use Rattle.binary.specs.Conversions.{withSign, infinity, packed, candidate, has}
 use Rattle.binary.proofs.Smallests.{packed-smallests, same-fields}
 
 -- ---- the fields of a pattern that is made of three
@@ -30,25 +30,25 @@ under-weight f e h = omega (arith, pow-pos (f .exponentBits))
 pub rest-lt : (f : Layout) (e t : ℕ) → e ≤ allOnes f → t < leading f → e * leading f + t < signWeight f
 rest-lt f e t E T = subst (λ (x : ℕ). e * leading f + t < x) (sym (weight-is f)) (digits-lt (under-weight f e E) T)
 
-pub signed-lt : (f : Layout) (s : Bool) (r : ℕ) → r < signWeight f → signed f s r < 2 * signWeight f
+pub signed-lt : (f : Layout) (s : Bool) (r : ℕ) → r < signWeight f → withSign f s r < 2 * signWeight f
 signed-lt f true r h = omega arith
 signed-lt f false r h = omega arith
 
-pub negative-signed : (f : Layout) (s : Bool) (r : ℕ) → r < signWeight f → negative f (signed f s r) ≡ s
+pub negative-signed : (f : Layout) (s : Bool) (r : ℕ) → r < signWeight f → negative f (withSign f s r) ≡ s
 negative-signed f true r h = le-leb (signWeight f) (signWeight f + r) (omega arith)
 negative-signed f false r h = lt-leb (signWeight f) (0 + r) (omega arith)
 
-rest-signed : (f : Layout) (s : Bool) (r : ℕ) → r < signWeight f → signed f s r % signWeight f ≡ r
+rest-signed : (f : Layout) (s : Bool) (r : ℕ) → r < signWeight f → withSign f s r % signWeight f ≡ r
 rest-signed f true r h = add-mod-left (signWeight f) r ∙ mod-eq-of-lt h
 rest-signed f false r h = ap (λ (x : ℕ). x % signWeight f) (zero-add r) ∙ mod-eq-of-lt h
 
 pub exponent-signed : (f : Layout) (s : Bool) (e t : ℕ) → e ≤ allOnes f → t < leading f →
-    exponent f (signed f s (e * leading f + t)) ≡ e
+    exponent f (withSign f s (e * leading f + t)) ≡ e
 exponent-signed f s e t E T =
     ap (λ (x : ℕ). x / leading f) (rest-signed f s (e * leading f + t) (rest-lt f e t E T)) ∙ digits-div e T
 
 pub fraction-signed : (f : Layout) (s : Bool) (e t : ℕ) → t < leading f →
-    fraction f (signed f s (e * leading f + t)) ≡ t
+    fraction f (withSign f s (e * leading f + t)) ≡ t
 fraction-signed f true e t T =
     ap (λ (x : ℕ). (x + (e * leading f + t)) % leading f) (weight-is f)
     ∙ mul-add-mod-self-right (2 ^ f .exponentBits) (leading f) (e * leading f + t)
@@ -89,15 +89,15 @@ sign-and-rest c n h = go (leb c n) refl
     go false e = ap (λ (b : Bool). cond b c 0 + n % c) e ∙ zero-add (n % c) ∙ mod-eq-of-lt (leb-false c n e)
 
 pub pattern-is : (f : Layout) (b : ℕ) → b < 2 * signWeight f →
-    signed f (negative f b) (exponent f b * leading f + fraction f b) ≡ b
-pattern-is f b h = ap (λ (y : ℕ). signed f (negative f b) y) (two-fields f b) ∙ sign-and-rest (signWeight f) b h
+    withSign f (negative f b) (exponent f b * leading f + fraction f b) ≡ b
+pattern-is f b h = ap (λ (y : ℕ). withSign f (negative f b) y) (two-fields f b) ∙ sign-and-rest (signWeight f) b h
 
 pub same-pattern : (f : Layout) (b c : ℕ) → b < 2 * signWeight f → c < 2 * signWeight f → negative f b ≡ negative f c →
     exponent f b ≡ exponent f c → fraction f b ≡ fraction f c → b ≡ c
 same-pattern f b c B C n e t =
-    sym (pattern-is f b B) ∙ ap (λ (s : Bool). signed f s (exponent f b * leading f + fraction f b)) n
-    ∙ ap (λ (x : ℕ). signed f (negative f c) (x * leading f + fraction f b)) e
-    ∙ ap (λ (x : ℕ). signed f (negative f c) (exponent f c * leading f + x)) t ∙ pattern-is f c C
+    sym (pattern-is f b B) ∙ ap (λ (s : Bool). withSign f s (exponent f b * leading f + fraction f b)) n
+    ∙ ap (λ (x : ℕ). withSign f (negative f c) (x * leading f + fraction f b)) e
+    ∙ ap (λ (x : ℕ). withSign f (negative f c) (exponent f c * leading f + x)) t ∙ pattern-is f c C
 
 -- ---- what the fields mean
 
@@ -109,9 +109,9 @@ unfolding meaning
 meaning-is f b = refl
 
 pub meaning-signed : (f : Layout) (s : Bool) (e t : ℕ) → e ≤ allOnes f → t < leading f →
-    meaning f (signed f s (e * leading f + t)) ≡ meant f s e t
+    meaning f (withSign f s (e * leading f + t)) ≡ meant f s e t
 meaning-signed f s e t E T =
-    meaning-is f (signed f s (e * leading f + t))
+    meaning-is f (withSign f s (e * leading f + t))
     ∙ rw (
       negative-signed f s (e * leading f + t)
           (rest-lt f e t E T),

@@ -14,7 +14,7 @@ use lib.Count.{leadingZeros, leading-top}
 use lib.Pow.{pow-add, pow-pos, pow-mono, shl-lt, shr-lt}
 use borrow.Author.Tests.{leb-true, leb-false}
 use Rattle.binary.specs.Formats.{Layout, leading, signWeight, allOnes, negative, exponent, fraction, magnitude}
-use Rattle.binary.specs.Conversions.{signed, candidate, exact, lost, narrowed}
+use Rattle.binary.specs.Conversions.{withSign, candidate, kept, lost, narrowed}
 use Rattle.binary.proofs.Smallests.{pow-lt-back, raised-le, raised-lt, Origin, from-zero, from-subnormal}
 use Rattle.binary.proofs.Smallests.{from-normal}
 use Rattle.binary.proofs.Patterns.{rest-lt, exponent-le, fraction-lt, candidate-is}
@@ -78,8 +78,8 @@ module _ {narrow wide : Layout} {lift more : ℕ} (W : Widens narrow wide lift m
 
   -- a normal number of the narrower format: the digits that it drops are zeros
   pub narrow-normal : lift < exponent wide b → exponent wide b < allOnes narrow + lift → fraction wide b % 2 ^ more ≡ 0
-      → narrowed wide narrow b ≡ exact
-      (signed narrow (negative wide b) ((exponent wide b - lift) * leading narrow + fraction wide b / 2 ^ more))
+      → narrowed wide narrow b ≡ kept
+      (withSign narrow (negative wide b) ((exponent wide b - lift) * leading narrow + fraction wide b / 2 ^ more))
   narrow-normal lo hi z =
       let e = exponent wide b - lift in
       let t = fraction wide b / 2 ^ more in
@@ -154,7 +154,7 @@ module _ {narrow wide : Layout} {lift more : ℕ} (W : Widens narrow wide lift m
         (pow-mono {i = suc (wide .fractionBits)} {j = narrow .fractionBits + down} (omega (arith, W .fractions))))
 
     pub narrow-subnormal : significand wide b / 2 ^ down * 2 ^ down ≡ significand wide b →
-        narrowed wide narrow b ≡ exact (signed narrow (negative wide b) (significand wide b / 2 ^ down))
+        narrowed wide narrow b ≡ kept (withSign narrow (negative wide b) (significand wide b / 2 ^ down))
     narrow-subnormal z =
         let j = down - more in
         let first : 0 < exponent wide b = past-zero (exponent wide b) lift (narrow .fractionBits) near (W .deep) in
@@ -174,8 +174,8 @@ module _ {narrow wide : Layout} {lift more : ℕ} (W : Widens narrow wide lift m
         (kept-subnormal W j t (moved down (exponent wide b) lift more is first) enough
         ∙ ap (λ (x : ℕ). magnitude wide x (t * 2 ^ (j + more) - leading wide)) e-is
         ∙ ap (magnitude wide (exponent wide b)) t-is)
-        ∙ ap (λ (x : ℕ). exact (signed narrow (negative wide b) (x + t))) (zero-mul (leading narrow))
-        ∙ ap (λ (x : ℕ). exact (signed narrow (negative wide b) x)) (zero-add t)
+        ∙ ap (λ (x : ℕ). kept (withSign narrow (negative wide b) (x + t))) (zero-mul (leading narrow))
+        ∙ ap (λ (x : ℕ). kept (withSign narrow (negative wide b) x)) (zero-add t)
 
     pub subnormal-lost : (significand wide b / 2 ^ down * 2 ^ down ≡ significand wide b → ⊥) →
         narrowed wide narrow b ≡ lost
@@ -216,11 +216,11 @@ module _ {narrow wide : Layout} {lift more : ℕ} (W : Widens narrow wide lift m
       go e t E (from-normal a x y) = under e a x
 
   pub narrow-zero : exponent wide b ≡ 0 → fraction wide b ≡ 0 →
-      narrowed wide narrow b ≡ exact (signed narrow (negative wide b) 0)
+      narrowed wide narrow b ≡ kept (withSign narrow (negative wide b) 0)
   narrow-zero e z =
       gives wide narrow b 0 0 (omega (arith, W .high, W .some)) (W .some) (pow-pos (narrow .fractionBits))
       (kept-zero W ∙ ap (λ (x : ℕ). magnitude wide x 0) (sym e) ∙ ap (magnitude wide (exponent wide b)) (sym z))
-      ∙ ap (λ (x : ℕ). exact (signed narrow (negative wide b) (x + 0))) (zero-mul (leading narrow))
+      ∙ ap (λ (x : ℕ). kept (withSign narrow (negative wide b) (x + 0))) (zero-mul (leading narrow))
 
 -- ---- widening a subnormal number
 

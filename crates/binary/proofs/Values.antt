@@ -1,22 +1,22 @@
 -- The logic's own account of `f32` and `f64` agrees with the formats of this crate: what `ofBits` reads from a pattern has the pattern's sign and magnitude, is the same infinity, or is the NaN exactly at a NaN's pattern.
 -- Rests on `lib.Ieee`: that `odd` keeps its value, and that what is read fits its format.
 use mathlib.Core.Path.{_≡_, refl, sym, ap, _∙_, subst}
-use mathlib.Core.Bool.{Bool, true, false, not, cond, false≢true}
+use mathlib.Core.Bool.{Bool, true, false, cond, false≢true}
 use Prim.Native.Nat.{ℕ, zero, suc, _+_, _-_, _*_, _/_, _%_, _^_, _<_}
 use native.Mathlib.Nat.{mul-one}
 use lib.Dec.{T, leb, eqb, lit<}
-use lib.Ieee.{Float, Format, binary32, binary64, prec, low, hid, ones, top, odd, fits, isNan, ofFields, ofBits, toBits}
+use lib.Ieee.{Float, Format, binary32, binary64, prec, low, hid, ones, top, odd, fits, ofFields, ofBits, toBits}
 use lib.Ieee as I
 use lib.Ieee.Bits.{ofBits-fits, ofBits-toBits, toBits-lt}
 use lib.Ieee.Exact.{HasValue, odd-sign}
 use lib.Ieee.Fits.{fits-widens}
-use Rattle.binary.specs.Formats.{Layout, half, single, double, leading, signWeight, allOnes, unit, negative, exponent, fraction, smallests, magnitude, Meaning, finite, infinite, nan, meaning, Number}
-use Rattle.binary.specs.Conversions.{quieted, widened, exact, narrowed}
+use Rattle.binary.specs.Formats.{half, single, double, leading, signWeight, allOnes, unit, negative, fraction, smallests, magnitude, Meaning, finite, infinite, nan, meaning, NotNan}
+use Rattle.binary.specs.Conversions.{quieted, widened, kept, narrowed}
 use Rattle.binary.specs.Floats.{layoutOf, unitsOf, floatMeaning, plain}
 use Rattle.binary.proofs.Units.{Fine, fine, counted}
 use Rattle.binary.proofs.Patterns.{meant, meaning-is, meant-finite, Reading, is-finite, is-infinite, is-nan, reading, one-pattern}
 use Rattle.binary.proofs.Widths.{half-single, single-double}
-use Rattle.binary.proofs.Laws.{narrowed-complete, widened-lt, widened-keeps, widened-narrowed, widened-nan}
+use Rattle.binary.proofs.Laws.{widened-lt, widened-keeps, widened-narrowed, widened-nan}
 
 value-means : (x : Float) (s : Bool) (n l j : ℕ) → l + j ≡ 1074 → Fine x → HasValue x s n (2 ^ l) → floatMeaning x ≡ finite s (n * 2 ^ j)
 unfolding floatMeaning
@@ -96,7 +96,7 @@ differ s m h = false≢true cc
 differ' : (s : Bool) → nan false 0 ≡ infinite s → ⊥
 differ' s h = false≢true cc
 
-plain-number : (y z : Meaning) → plain y ≡ plain z → Number z → y ≡ z
+plain-number : (y z : Meaning) → plain y ≡ plain z → NotNan z → y ≡ z
 plain-number (finite s m) (finite t n) h k = h
 plain-number (finite s m) (infinite t) h k = h
 plain-number (infinite s) (finite t n) h k = h
@@ -105,7 +105,7 @@ plain-number (nan s m) (finite t n) h k = absurd (differ t n h)
 plain-number (nan s m) (infinite t) h k = absurd (differ' t h)
 plain-number y (nan t n) h k = absurd k
 
-plain-is : (y : Meaning) → Number y → plain y ≡ y
+plain-is : (y : Meaning) → NotNan y → plain y ≡ y
 plain-is (finite s m) k = refl
 plain-is (infinite s) k = refl
 plain-is (nan s t) k = absurd k
@@ -116,36 +116,12 @@ nan-float I.nan h = refl
 nan-float (I.inf s) h = absurd (differ' s (sym h))
 nan-float (I.fin s m e) h = absurd (differ s (unitsOf m e) (sym h))
 
-nan-means : floatMeaning I.nan ≡ nan false 0
-unfolding floatMeaning
-nan-means = refl
-
--- a NaN's pattern is read as the NaN, and no other is (`value-nan`)
+-- a NaN's pattern is read as the NaN
 pub nan-value : (f : Format) (b : ℕ) (s : Bool) (t : ℕ) → meaning (layoutOf f) b ≡ nan s t → ofBits f b ≡ I.nan
 nan-value f b s t h = nan-float (ofBits f b) (ofBits-means f b ∙ ap plain h)
 
-pub value-nan : (f : Format) (b : ℕ) → ofBits f b ≡ I.nan → (s : Bool) × (t : ℕ) × (meaning (layoutOf f) b ≡ nan s t)
-value-nan f b h = go (reading (layoutOf f) b)
-  where
-    l : Layout
-    l = layoutOf f
-
-    read : nan false 0 ≡ plain (meaning l b)
-    read = sym nan-means ∙ ap floatMeaning (sym h) ∙ ofBits-means f b
-
-    go : Reading l b → (s : Bool) × (t : ℕ) × (meaning l b ≡ nan s t)
-    go (is-finite e m) = absurd (differ (negative l b) (magnitude l (exponent l b) (fraction l b)) (read ∙ ap plain m))
-    go (is-infinite e z m) = absurd (differ' (negative l b) (read ∙ ap plain m))
-    go (is-nan e n m) = (negative l b, fraction l b, m)
-
-number-float : (x : Float) → T (not (isNan x)) → Number (floatMeaning x)
-unfolding isNan floatMeaning
-number-float I.nan h = h
-number-float (I.inf s) h = tt
-number-float (I.fin s m e) h = tt
-
 -- a number's pattern is the one that means it
-pub pattern-of : (f : Format) (x : Float) (b : ℕ) → T (fits f x) → b < 2 * signWeight (layoutOf f) → Number (meaning (layoutOf f) b) → floatMeaning x ≡ meaning (layoutOf f) b → toBits f x ≡ b
+pub pattern-of : (f : Format) (x : Float) (b : ℕ) → T (fits f x) → b < 2 * signWeight (layoutOf f) → NotNan (meaning (layoutOf f) b) → floatMeaning x ≡ meaning (layoutOf f) b → toBits f x ≡ b
 pattern-of f x b F B n h =
     one-pattern (layoutOf f) (toBits f x) b (subst (λ (w : ℕ). toBits f x < 2 * w) (same-sign f) (toBits-lt f x F)) B
     (plain-number (meaning (layoutOf f) (toBits f x)) (meaning (layoutOf f) b) (toBits-means f x F ∙ h ∙ sym (plain-is (meaning (layoutOf f) b) n)) n)
@@ -156,35 +132,26 @@ pattern-of f x b F B n h =
 pub widened-value : (b : ℕ) → ofBits binary64 (widened single double b) ≡ ofBits binary32 b
 widened-value b = go (reading single b)
   where
-    number : Number (meaning single b) → ofBits binary64 (widened single double b) ≡ ofBits binary32 b
+    number : NotNan (meaning single b) → ofBits binary64 (widened single double b) ≡ ofBits binary32 b
     number n =
         let x = ofBits binary32 b in
         let F : T (fits binary64 x) = fits-widens x (ofBits-fits binary32 b) in
         let w = widened single double b in
         let k : meaning double w ≡ meaning single b = widened-keeps single-double b n in
-        let m : Number (meaning double w) = subst Number (sym k) n in
+        let m : NotNan (meaning double w) = subst NotNan (sym k) n in
         let q : toBits binary64 x ≡ w = pattern-of binary64 x w F (widened-lt single-double b n) m (ofBits-means binary32 b ∙ plain-is (meaning single b) n ∙ sym k) in
         ap (ofBits binary64) (sym q) ∙ ofBits-toBits binary64 x F
 
     go : Reading single b → ofBits binary64 (widened single double b) ≡ ofBits binary32 b
-    go (is-finite e m) = number (subst Number (sym m) tt)
-    go (is-infinite e z m) = number (subst Number (sym m) tt)
+    go (is-finite e m) = number (subst NotNan (sym m) tt)
+    go (is-infinite e z m) = number (subst NotNan (sym m) tt)
     go (is-nan e z m) =
         nan-value binary64 (widened single double b) (negative single b) (quieted double (fraction single b * 2 ^ (double .fractionBits - single .fractionBits))) (widened-nan single double b (negative single b) (fraction single b) (lit< tt) m)
         ∙ sym (nan-value binary32 b (negative single b) (fraction single b) m)
 
 -- what narrows is the same float
-pub narrowed-value : (b q : ℕ) → b < 2 * signWeight double → narrowed double single b ≡ exact q → ofBits binary32 q ≡ ofBits binary64 b
+pub narrowed-value : (b q : ℕ) → b < 2 * signWeight double → narrowed double single b ≡ kept q → ofBits binary32 q ≡ ofBits binary64 b
 narrowed-value b q B h = sym (widened-value q) ∙ ap (ofBits binary64) (widened-narrowed single-double b q B h)
-
--- a binary64 value that binary32 holds narrows, to its own pattern there
-pub value-narrows : (x : Float) → T (fits binary32 x) → T (not (isNan x)) → narrowed double single (toBits binary64 x) ≡ exact (toBits binary32 x)
-value-narrows x F n =
-    let G : T (fits binary64 x) = fits-widens x F in
-    let k : Number (floatMeaning x) = number-float x n in
-    let d : meaning double (toBits binary64 x) ≡ floatMeaning x = plain-number (meaning double (toBits binary64 x)) (floatMeaning x) (toBits-means binary64 x G ∙ sym (plain-is (floatMeaning x) k)) k in
-    let s : meaning single (toBits binary32 x) ≡ floatMeaning x = plain-number (meaning single (toBits binary32 x)) (floatMeaning x) (toBits-means binary32 x F ∙ sym (plain-is (floatMeaning x) k)) k in
-    narrowed-complete double single (toBits binary64 x) (toBits binary32 x) (toBits-lt binary32 x F, subst Number (sym d) k, s ∙ sym d)
 
 -- ---- a binary16 pattern is read through binary32
 
@@ -192,6 +159,6 @@ pub half-value : (h : ℕ) → floatMeaning (ofBits binary32 (widened half singl
 half-value h = ofBits-means binary32 (widened half single h) ∙ go (reading half h)
   where
     go : Reading half h → plain (meaning single (widened half single h)) ≡ plain (meaning half h)
-    go (is-finite e m) = ap plain (widened-keeps half-single h (subst Number (sym m) tt))
-    go (is-infinite e z m) = ap plain (widened-keeps half-single h (subst Number (sym m) tt))
+    go (is-finite e m) = ap plain (widened-keeps half-single h (subst NotNan (sym m) tt))
+    go (is-infinite e z m) = ap plain (widened-keeps half-single h (subst NotNan (sym m) tt))
     go (is-nan e n m) = ap plain (widened-nan half single h (negative half h) (fraction half h) (lit< tt) m) ∙ sym (ap plain m)

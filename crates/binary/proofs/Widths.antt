@@ -1,4 +1,4 @@
--- Two formats of which the one widens the other (`Widens`), the three pairs that do, and what a number's fields become
+-- Two formats of which the one widens the other (`Widens`), the two pairs that do, and what a number's fields become
 -- from the one to the other: `kept-normal`, `kept-subnormal`, `kept-zero`, and back, `comes-from`.
 -- Rests on `Smallests`, which has the same in smallest values.
 use mathlib.Core.Path.{_≡_, refl, sym, ap, _∙_, subst}
@@ -27,9 +27,6 @@ half-single = record { fractions = refl; units = refl; deep = lit≤ tt; high = 
 
 abbrev pub single-double : Widens single double 896 29
 single-double = record { fractions = refl; units = refl; deep = lit≤ tt; high = lit≤ tt; some = lit< tt }
-
-abbrev pub half-double : Widens half double 1008 42
-half-double = record { fractions = refl; units = refl; deep = lit≤ tt; high = lit≤ tt; some = lit< tt }
 
 under : (o o' u j : ℕ) → o + u ≤ o' → 0 < o → 1 ≤ j → j ≤ u → suc (u - j) < o'
 under o o' u j h s a b = omega arith

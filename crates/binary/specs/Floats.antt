@@ -1,4 +1,5 @@
--- A float value of the logic, read as a meaning: what `ofBits` of a pattern is to be compared with. The logic has one NaN, without sign or payload.
+-- A float value of the logic, read as a meaning: what `ofBits` of a pattern is to be compared with. The logic has one
+-- NaN, without sign or payload.
 use Prim.Native.Nat.{ℕ, _+_, _-_, _*_, _^_}
 use mathlib.Core.Bool.{false}
 use lib.IntN.{ℤ, pos, negsuc}

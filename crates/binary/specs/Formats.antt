@@ -1,5 +1,6 @@
 -- The binary formats of IEEE 754, stated once over the two numbers that fix one, and what a bit pattern means in it.
--- "Statements give a finite float as its sign and its magnitude counted in units of 2^-1074, a whole number for all three widths; infinities and NaN are cases of their own."
+-- "Statements give a finite float as its sign and its magnitude counted in units of 2^-1074, a whole number for all
+-- three widths; infinities and NaN are cases of their own."
 use Prim.Native.Nat.{ℕ, zero, suc, _+_, _-_, _*_, _/_, _%_, _^_, _<_}
 use mathlib.Core.Path.{_≡_}
 use mathlib.Core.Bool.{Bool, cond}
@@ -37,7 +38,8 @@ allOnes f = 2 ^ f .exponentBits - 1
 abbrev pub bias : Layout → ℕ
 bias f = 2 ^ (f .exponentBits - 1) - 1
 
--- The smallest positive value of a format is 2 ^ (1 - bias - fractionBits); it is 2 ^ `unit` in units of 2 ^ -1074: 1050, 925 and 0 for the three.
+-- The smallest positive value of a format is 2 ^ (1 - bias - fractionBits); it is 2 ^ `unit` in units of 2 ^ -1074:
+-- 1050, 925 and 0 for the three.
 abbrev pub unit : Layout → ℕ
 unit f = 1075 - bias f - f .fractionBits
 
@@ -54,7 +56,8 @@ fraction f b = b % leading f
 
 -- ---- what a pattern means
 
--- The size of a finite number in a format's smallest values, from its fields. A field of 0 has no leading digit, and counts as a field of 1. `p` is the number of fraction bits.
+-- The size of a finite number in a format's smallest values, from its fields. A field of 0 has no leading digit, and
+-- counts as a field of 1. `p` is the number of fraction bits.
 unfoldable pub smallests : ℕ → ℕ → ℕ → ℕ
 smallests p zero t = t
 smallests p (suc x) t = (2 ^ p + t) * 2 ^ x
@@ -75,12 +78,12 @@ meaning f b =
     (cond (eqb (fraction f b) 0) (infinite (negative f b)) (nan (negative f b) (fraction f b)))
     (finite (negative f b) (magnitude f (exponent f b) (fraction f b)))
 
--- a meaning that is a number, infinities counted
-abbrev pub Number : Meaning → Type 0
-Number (finite s m) = Unit {0}
-Number (infinite s) = Unit {0}
-Number (nan s t) = ⊥
+-- a meaning that is a number, infinities counted: no NaN
+abbrev pub NotNan : Meaning → Type 0
+NotNan (finite s m) = Unit {0}
+NotNan (infinite s) = Unit {0}
+NotNan (nan s t) = ⊥
 
 -- q is a pattern of the format `to`, and has the sign and the magnitude that b has in the format `from`
 abbrev pub SameValue : Layout → Layout → ℕ → ℕ → Type 0
-SameValue from to b q = (q < 2 * signWeight to) × Number (meaning from b) × (meaning to q ≡ meaning from b)
+SameValue from to b q = (q < 2 * signWeight to) × NotNan (meaning from b) × (meaning to q ≡ meaning from b)

@@ -84,7 +84,8 @@ asU128 = cast unsigned w128 (λ z. AsWide.Value (wideOf z)) AsWide.Refused
 
 -- a whole number from -2 ^ p to 2 ^ p - 1, for a format of p digits, as the float of that format
 abbrev pub wholeFloat : {X : Type 0} → Ieee.Format → (Ieee.Float → X) → (Refusal → X) → ℤ → X
-wholeFloat f taken refused z = pick (ltb (mag z) (2 ^ Ieee.prec f)) (taken (Ieee.ofInt f z)) (refused R.ImpreciseCastWouldLoseData)
+wholeFloat f taken refused z =
+    pick (ltb (mag z) (2 ^ Ieee.prec f)) (taken (Ieee.ofInt f z)) (refused R.ImpreciseCastWouldLoseData)
 
 -- "`as_f32` takes what `as_i32` takes from -2^24 to 2^24 - 1"
 abbrev pub floatOfI32 : AsI32 → AsF32

@@ -7,7 +7,9 @@ use Rattle.cast.specs.Variants.{variant, inRange}
 
 -- "trying signed first and then unsigned at each smaller width for signed input, unsigned only for unsigned input"
 abbrev pub tried : Sign → Width → ℤ → Integer → Integer
-tried signed w z else = pick (inRange signed w z) (variant signed w z) (pick (inRange unsigned w z) (variant unsigned w z) else)
+tried signed w z else =
+    pick (inRange signed w z) (variant signed w z)
+    (pick (inRange unsigned w z) (variant unsigned w z) else)
 tried unsigned w z else = pick (inRange unsigned w z) (variant unsigned w z) else
 
 -- "`From` picks the narrowest variant": of a number of that sign and width, the smaller widths in turn, then its own

@@ -1,5 +1,5 @@
--- An integer taken apart: the sign and the width of its variant; its value is `types.Values.value`. Document 01, "Casts".
--- `Sign` and `Width` are the machine's own; `bits w` and `bytes w` are a width's size.
+-- An integer taken apart: the sign and the width of its variant; its value is `types.Values.value`. Document 01,
+-- "Casts". `Sign` and `Width` are the machine's own; `bits w` and `bytes w` are a width's size.
 use Prim.Native.Nat.{_^_}
 use mathlib.Core.Bool.{Bool, true, false, _&&_}
 use lib.Dec.{ltb, eqb}
@@ -48,8 +48,8 @@ variant unsigned w32 z = I.U32 (natAbs z)
 variant unsigned w64 z = I.U64 (natAbs z)
 variant unsigned w128 z = I.U128 (wideOf z)
 
--- the values of a sign and a width: from -2 ^ (b - 1) to 2 ^ (b - 1) - 1 in b bits if signed, from 0 to 2 ^ b - 1 if not
--- (`mag z` is n for n and for -(n + 1))
+-- the values of a sign and a width: from -2 ^ (b - 1) to 2 ^ (b - 1) - 1 in b bits if signed, from 0 to 2 ^ b - 1 if
+-- not (`mag z` is n for n and for -(n + 1))
 abbrev pub inRange : Sign → Width → ℤ → Bool
 inRange signed w z = ltb (mag z) (2 ^ hbits w)
 inRange unsigned w (pos n) = ltb n (2 ^ bits w)
@@ -75,7 +75,8 @@ sameValue (negsuc m) (negsuc n) = eqb m n
 
 -- "Integers are equal only if variant and value are."
 unfoldable pub equalIntegers : Integer → Integer → Bool
-equalIntegers a b = sameSign (sign a) (sign b) && eqb (bytes (width a)) (bytes (width b)) && sameValue (value a) (value b)
+equalIntegers a b =
+    sameSign (sign a) (sign b) && eqb (bytes (width a)) (bytes (width b)) && sameValue (value a) (value b)
 
 -- equal, and of that sign
 unfoldable pub equalOf : Sign → Integer → Integer → Bool

@@ -11,11 +11,10 @@ use lib.Dec.{ltb, leb}
 use lib.ListN.{length, take, drop, length-append, length-drop, take-append-drop}
 use lib.Seq.{drop-append-seam, length-take-le}
 use borrow.Author.Tests.{le-ltb, ltb-true, ltb-false, leb-true, leb-false}
-use Rattle.types.specs.Forms.{known, unknown}
+use Rattle.types.specs.Forms.{known, chargeOf, unknown}
 use Rattle.types.specs.declared.Place.{Place}
 use Rattle.types.specs.declared.Refusal.{Refusal}
 use Rattle.types.specs.declared.Refusal.the-variants as R
-use Rattle.types.specs.declared.Ran.{Ran}
 use Rattle.types.specs.declared.Ran.the-variants as RN
 use Rattle.types.specs.declared.Tallied.{Tallied}
 use Rattle.types.specs.declared.TallyAnswer.the-variants as TA
@@ -25,14 +24,14 @@ use Rattle.types.specs.declared.Kind.the-variants as K
 use Rattle.header.proofs.Fewest.{length-bounds}
 use Rattle.dictionary.specs.Wholes.{IsAtom, price, bodyBytes, lettersIn, Atoms, none}
 use Rattle.dictionary.specs.Wholes.{more, total, Spoilt, cut-header, not-known, cut-body}
-use Rattle.dictionary.specs.Prices.{priced, Short, Made, Broken}
+use Rattle.dictionary.specs.Prices.{priced, Passing, Barred, over-budget, Made, Broken}
 use Rattle.dictionary.specs.Runs.{runFrom, runAll, tallied, tallyFrom, tallyAll, nothing, mostBytes, unlimited}
 use Rattle.dictionary.proofs.Steps.{price-bound}
 use Rattle.dictionary.proofs.Turns.{run-on, run-stop, run-end, tally-on, tally-stop, tally-end}
 use Rattle.dictionary.proofs.Running.{running}
 use Rattle.dictionary.proofs.Fronts.{front, front-grows}
-use Rattle.dictionary.proofs.Wholes.{price-word, atom-some, atom-within, atom-next, atom-past, atom-over, plus}
-use Rattle.dictionary.proofs.Wholes.{added-plus, spoilt-refuses}
+use Rattle.dictionary.proofs.Wholes.{price-word, atom-some, atom-within, atom-next, atom-past, plus}
+use Rattle.dictionary.proofs.Wholes.{added-plus, barred-refuses, spoilt-bars, asked-word}
 
 -- atoms never outnumber bytes
 pub atoms-most : {l : List ℕ} {atoms : List (List ℕ)} → Atoms l atoms → length atoms ≤ length l
@@ -177,106 +176,157 @@ spent b n (atom ∷ atoms) =
     let q : n + 1 + length atoms ≡ n + suc (length atoms) = omega arith in
     cc
 
+-- A RUN OVER THE ATOMS THAT STAND FIRST, whose charges the budget covers
+module _ (s front rest : List ℕ) (atoms : List (List ℕ)) (budget : ℕ) (w : Atoms front atoms) (e : s ≡ front ++ rest)
+    (c : total price atoms ≤ budget) where
+  its-size : length s ≡ length front + length rest
+  its-size = ap length e ∙ length-append front rest
+
+  run-over : runAll s (record { 0 = budget })
+      ≡ runFrom (suc (length s - length atoms)) s (length front) (record { 0 = budget - total price atoms })
+      (length atoms)
+  run-over =
+      let n = its-size in
+      let most = atoms-most w in
+      let end : length front ≡ 0 + length front = omega arith in
+      let k : 0 + length atoms ≡ length atoms = omega arith in
+      walk-over running spend (λ x atoms. total price atoms ≤ x .0) run-turn s w rest (suc (length s))
+      (suc (length s - length atoms)) 0 (length front) (budget, 0) (omega arith) end (omega arith) e c
+      ∙ ap (running (suc (length s - length atoms)) s (length front)) (spent budget 0 atoms)
+      ∙ ap (runFrom (suc (length s - length atoms)) s (length front) (record { 0 = budget - total price atoms })) k
+
+  -- and stops at the atom behind them, if that is refused
+  pub run-barred : (why : Refusal) (past charge : ℕ) → 1 ≤ length rest →
+      Barred rest (budget - total price atoms) why past charge →
+      runAll s (record { 0 = budget })
+      ≡ RN.Stopped (record { 0 = length front + past }) (record { 0 = budget - total price atoms - charge })
+      (length atoms) why (record { 0 = length front })
+  run-barred why past charge some bad =
+      let n = its-size in
+      let there : drop (length front) s ≡ rest = ap (drop (length front)) e ∙ drop-append-seam front rest in
+      run-over
+      ∙ run-stop s (suc (length s - length atoms)) (length s - length atoms) (length front)
+      (record { 0 = budget - total price atoms }) (length atoms) refl _ _ why (omega arith)
+      (barred-refuses s (length front) (omega arith) rest there (budget - total price atoms) bad)
+
 -- 2: A RUN WITH A BUDGET OF AT LEAST C reads them all, and leaves the budget less C
 pub run-priced : (s : List ℕ) (atoms : List (List ℕ)) (budget : ℕ) → Atoms s atoms → total price atoms ≤ budget →
     runAll s (record { 0 = budget })
     ≡ RN.Done (record { 0 = length s }) (record { 0 = budget - total price atoms }) (length atoms)
 run-priced s atoms budget w c =
-    let most = atoms-most w in
-    let e : length s ≡ 0 + length s = omega arith in
-    let k : 0 + length atoms ≡ length atoms = omega arith in
-    walk-over running spend (λ x atoms. total price atoms ≤ x .0) run-turn s w [] (suc (length s))
-    (suc (length s - length atoms)) 0 (length s) (budget, 0) (omega arith) e (omega arith) (sym (append-nil s)) c
-    ∙ ap (running (suc (length s - length atoms)) s (length s)) (spent budget 0 atoms)
+    run-over s s [] atoms budget w (sym (append-nil s)) c
     ∙ run-end s (suc (length s - length atoms)) (length s - length atoms) (length s)
-    (record { 0 = budget - total price atoms }) (0 + length atoms) refl (omega arith)
-    ∙ ap (RN.Done (record { 0 = length s }) (record { 0 = budget - total price atoms })) k
+    (record { 0 = budget - total price atoms }) (length atoms) refl (omega arith)
 
 -- 3: A RUN WITH A SMALLER BUDGET is refused with 5 at the first atom whose running sum passes it
 
--- the first atom passes it
-short-here : (ran : Ran) (budget at n : ℕ) (atom : List ℕ) (atoms : List (List ℕ)) → budget < price atom →
-    ran
-    ≡ RN.Stopped (record { 0 = at + headerLength atom }) (record { 0 = budget }) n R.TooManyBytesRead
-    (record { 0 = at }) →
-    Short ran budget at n (atom ∷ atoms)
-unfolding total
-short-here ran budget at n atom atoms h e =
-    let a : at ≡ at + 0 = omega arith in
-    let b : budget ≡ budget - 0 = omega arith in
-    let c : n ≡ n + 0 = omega arith in
-    record
-    { before = []; atom = atom; after = atoms; split = refl; covered = omega arith; passes = omega arith; stops = cc }
+-- where that is in the bytes
+pub record Parted (l : List ℕ) (budget : ℕ) (atoms : List (List ℕ)) : Type 0 where
+  pub passing : Passing budget atoms
+  pub front : List ℕ
+  pub rest : List ℕ
+  pub wholes : Atoms front (passing .before)
+  pub whole : IsAtom (passing .atom)
+  pub joined : l ≡ front ++ (passing .atom ++ rest)
+  pub starts : length front ≡ total length (passing .before)
 
--- a later one does
-short-later : (ran ran′ : Ran) (budget at n : ℕ) (atom : List ℕ) (atoms : List (List ℕ)) → price atom ≤ budget →
-    ran ≡ ran′ → Short ran′ (budget - price atom) (at + length atom) (n + 1) atoms →
-    Short ran budget at n (atom ∷ atoms)
+parted-here : (atom rest : List ℕ) (atoms : List (List ℕ)) (budget : ℕ) → IsAtom atom → budget < price atom →
+    Parted (atom ++ rest) budget (atom ∷ atoms)
 unfolding total
-short-later ran ran′ budget at n atom atoms h e r =
-    let front = r .before in
-    let covered = r .covered in
-    let passes = r .passes in
-    let stops = r .stops in
-    let a : at + length atom + total length front ≡ at + (length atom + total length front) = omega arith in
-    let b : budget - price atom - total price front ≡ budget - (price atom + total price front) = omega arith in
-    let c : n + 1 + length front ≡ n + suc (length front) = omega arith in
+parted-here atom rest atoms budget w h = record {
+  passing = record {
+    before = [];
+    atom = atom;
+    after = atoms;
+    split = refl;
+    covered = omega arith;
+    passes = omega arith;
+  };
+  front = [];
+  rest = rest;
+  wholes = none;
+  whole = w;
+  joined = refl;
+  starts = refl;
+}
+
+parted-later : (atom rest : List ℕ) (atoms : List (List ℕ)) (budget : ℕ) → IsAtom atom → price atom ≤ budget →
+    Parted rest (budget - price atom) atoms → Parted (atom ++ rest) budget (atom ∷ atoms)
+unfolding total
+parted-later atom rest atoms budget w h p =
+    let covered = p .passing .covered in
+    let passes = p .passing .passes in
     record {
-      before = atom ∷ front;
-      atom = r .atom;
-      after = r .after;
-      split = ap (λ (l : List (List ℕ)). atom ∷ l) (r .split);
-      covered = omega arith;
-      passes = omega arith;
-      stops = cc;
+      passing = record {
+        before = atom ∷ p .passing .before;
+        atom = p .passing .atom;
+        after = p .passing .after;
+        split = ap (λ (l : List (List ℕ)). atom ∷ l) (p .passing .split);
+        covered = omega arith;
+        passes = omega arith;
+      };
+      front = atom ++ p .front;
+      rest = p .rest;
+      wholes = more w (p .wholes);
+      whole = p .whole;
+      joined = ap (λ (x : List ℕ). atom ++ x) (p .joined)
+          ∙ sym (append-assoc atom (p .front) (p .passing .atom ++ p .rest));
+      starts = length-append atom (p .front) ∙ ap (λ (n : ℕ). length atom + n) (p .starts);
     }
 
-run-short-at : (s : List ℕ) {l : List ℕ} {atoms : List (List ℕ)} → Atoms l atoms → (fuel at budget n : ℕ) →
-    length l < fuel → budget < total price atoms → at ≤ length s → drop at s ≡ l →
-    Short (runFrom fuel s at (record { 0 = budget }) n) budget at n atoms
+pub parted : {l : List ℕ} {atoms : List (List ℕ)} → Atoms l atoms → (budget : ℕ) → budget < total price atoms →
+    Parted l budget atoms
 unfolding total
-run-short-at s none fuel at budget n f c within here = absurd (omega arith)
-run-short-at s (more {atom} {rest} {atoms} w r) fuel at budget n f c within here =
-    by
-    (λ h. run-short-at s r (fuel - 1) (at + length atom) (budget - price atom) (n + 1) shorter (omega arith) inside
-    (atom-next s at within atom rest here w)) (ltb budget (price atom)) refl
+parted none budget c = absurd (omega arith)
+parted (more {atom} {rest} {atoms} w r) budget c =
+    by (λ h. parted r (budget - price atom) (omega arith)) (ltb budget (price atom)) refl
   where
-    one : 1 ≤ length atom
-    one = atom-some atom w
-
-    inside : at + length atom ≤ length s
-    inside = atom-within s at within atom rest here w
-
-    enough : fuel ≡ suc (fuel - 1)
-    enough = let i = f in omega arith
-
-    shorter : length rest < fuel - 1
-    shorter = omega (arith, f, one, length-append atom rest)
-
-    going : at < length s
-    going = omega (arith, one, inside)
-
-    by :
-        (price atom ≤ budget →
-        Short (runFrom (fuel - 1) s (at + length atom) (record { 0 = budget - price atom }) (n + 1))
-        (budget - price atom) (at + length atom) (n + 1) atoms) →
-        (t : Bool) → ltb budget (price atom) ≡ t →
-        Short (runFrom fuel s at (record { 0 = budget }) n) budget at n (atom ∷ atoms)
-    by later true e =
-        let h = ltb-true budget (price atom) e in
-        short-here _ budget at n atom atoms h
-        (run-stop s fuel (fuel - 1) at (record { 0 = budget }) n enough _ _ _ going
-        (atom-over s at within atom rest here w (record { 0 = budget }) h))
+    by : (price atom ≤ budget → Parted rest (budget - price atom) atoms) → (t : Bool) → ltb budget (price atom) ≡ t →
+        Parted (atom ++ rest) budget (atom ∷ atoms)
+    by later true e = parted-here atom rest atoms budget w (ltb-true budget (price atom) e)
     by later false e =
-        let h = ltb-false budget (price atom) e in
-        short-later _ _ budget at n atom atoms h
-        (run-on s fuel (fuel - 1) at (record { 0 = budget }) n enough _ _ _ _ going
-        (atom-past s at within atom rest here w (record { 0 = budget }) h))
-        (later h)
+        let h = ltb-false budget (price atom) e in parted-later atom rest atoms budget w h (later h)
+
+-- the atom that passes the budget is refused there, whatever follows it
+module _ (l : List ℕ) (budget : ℕ) (atoms : List (List ℕ)) (p : Parted l budget atoms) (after : List ℕ) where
+  pub passing-bars : Barred (p .passing .atom ++ after) (budget - total price (p .passing .before))
+      R.TooManyBytesRead (headerLength (p .passing .atom)) 0
+  passing-bars =
+      let atom = p .passing .atom in
+      let f = front atom after (p .whole .its-header) in
+      let there = p .whole .its-header in
+      let n = length-append atom after in
+      let covered = p .passing .covered in
+      let passes = p .passing .passes in
+      let h = f .same-length in
+      let c : price (atom ++ after) ≡ price atom =
+      ap (λ (k : Kind). chargeOf k (headerArgument (atom ++ after))) (f .same-kind)
+      ∙ ap (chargeOf (headerKind atom)) (f .same-argument)
+      in
+      subst (λ (n : ℕ). Barred (atom ++ after) (budget - total price (p .passing .before)) R.TooManyBytesRead n 0) h
+      (over-budget (omega arith) (omega arith))
+
+  pub passing-some : 1 ≤ length (p .passing .atom ++ after)
+  passing-some =
+      let one = atom-some (p .passing .atom) (p .whole) in omega (arith, length-append (p .passing .atom) after)
 
 pub run-short : (s : List ℕ) (atoms : List (List ℕ)) (budget : ℕ) → Atoms s atoms → budget < total price atoms →
-    Short (runAll s (record { 0 = budget })) budget 0 0 atoms
-run-short s atoms budget w c = run-short-at s w (suc (length s)) 0 budget 0 (omega arith) c (omega arith) refl
+    (p : Passing budget atoms) × (runAll s (record { 0 = budget })
+    ≡ RN.Stopped (record { 0 = total length (p .before) + headerLength (p .atom) })
+    (record { 0 = budget - total price (p .before) }) (length (p .before)) R.TooManyBytesRead
+    (record { 0 = total length (p .before) }))
+run-short s atoms budget w c =
+    let p = parted w budget c in
+    let q = p .passing in
+    let starts = p .starts in
+    let free : budget - total price (q .before) - 0 ≡ budget - total price (q .before) = omega arith in
+    let some = passing-some s budget atoms p (p .rest) in
+    let bars = passing-bars s budget atoms p (p .rest) in
+    let e =
+    run-barred s (p .front) (q .atom ++ p .rest) (q .before) budget (p .wholes) (p .joined) (q .covered)
+    R.TooManyBytesRead (headerLength (q .atom)) 0 some bars
+    in
+    (q, cc)
 
 -- EVERY OTHER INPUT: whole, known atoms up to one that is not
 
@@ -289,12 +339,12 @@ broken-at s front rest atoms why short w e some bad =
     let end : length front ≡ 0 + length front = omega arith in
     let there : drop (length front) s ≡ rest = ap (drop (length front)) e ∙ drop-append-seam front rest in
     let within : length front ≤ length s = omega arith in
-    let r = spoilt-refuses s (length front) within rest why there bad in
+    let r = spoilt-bars rest unlimited why bad (asked-word rest) in
     rw (le-ltb mostBytes (length s) short)
     (tally-over s w rest (suc (length s)) (suc (length s - length atoms)) 0 (length front) nothing (omega arith) end
     (omega arith) e
     ∙ tally-stop s (suc (length s - length atoms)) (length s - length atoms) (length front) (summed nothing atoms) refl
-    (r .place) (r .left) why (omega arith) (r .refused))
+    _ _ why (omega arith) (barred-refuses s (length front) within rest there unlimited (r .bars)))
 
 pub tally-broken : (s : List ℕ) (b : Broken s) → length s ≤ mostBytes →
     tallyAll s ≡ TA.Stopped (record { 0 = length (b .front-bytes) }) (b .why)
@@ -389,7 +439,7 @@ spoilt-other l why (cut-body h k m) e = false≢true cc
 never-five-at : (s : List ℕ) (place : Place) (t : Bool) → ltb mostBytes (length s) ≡ t →
     tallyAll s ≡ TA.Stopped place R.TooManyBytesRead → ⊥
 never-five-at s place true h e =
-    let x : TA.Stopped (record { 0 = 0 }) R.TooLong ≡ TA.Stopped place R.TooManyBytesRead = rw h at e in false≢true cc
+    let x : TA.Refused R.TooLong ≡ TA.Stopped place R.TooManyBytesRead = rw h at e in false≢true cc
 never-five-at s place false h e =
     let short = ltb-false mostBytes (length s) h in
     ⊎-elim
@@ -425,7 +475,7 @@ agree-at : (s : List ℕ) (t : Tallied) (budget : ℕ) (l : Bool) → ltb mostBy
     t .charge ≤ budget →
     runAll s (record { 0 = budget }) ≡ RN.Done (record { 0 = length s }) (record { 0 = budget - t .charge }) (t .atoms)
 agree-at s t budget true h e c =
-    let x : TA.Stopped (record { 0 = 0 }) R.TooLong ≡ TA.Done t = rw h at e in absurd (false≢true cc)
+    let x : TA.Refused R.TooLong ≡ TA.Done t = rw h at e in absurd (false≢true cc)
 agree-at s t budget false h e c =
     let short = ltb-false mostBytes (length s) h in
     ⊎-elim

@@ -35,7 +35,7 @@ pub record Tallying (s : List ℕ) (atoms body charge signs at : ℕ) : Type 0 w
   pub costs : 3 * charge ≤ 4 * body
   pub lettered : signs ≤ at
 
-pub too-long : (s : List ℕ) → 16_777_216 < length s → TA.Stopped (record { 0 = 0 }) R.TooLong ≡ tallyAll s
+pub too-long : (s : List ℕ) → 16_777_216 < length s → TA.Refused R.TooLong ≡ tallyAll s
 too-long s h = simp (lt-ltb _ _ h)
 
 pub tally-begins : (s : List ℕ) → Tallying s 0 0 0 0 0

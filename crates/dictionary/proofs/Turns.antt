@@ -1,6 +1,6 @@
 -- The turns of the run and of the tally, by what the step answers; and what holds before each turn of such a walk. The
 -- run is defined over `read_atom`: the step's answer says what that was.
-use mathlib.Core.Path.{_≡_, refl, _∙_, sym}
+use mathlib.Core.Path.{_≡_, refl, _∙_, sym, ap}
 use mathlib.Core.Bool.{Bool, false≢true}
 use mathlib.Core.List.{List, []}
 use Prim.Native.Nat.{ℕ, suc, _+_, _-_, _≤_, _<_}
@@ -25,7 +25,21 @@ use Rattle.dictionary.specs.Steps.{forgotten, skipped}
 use Rattle.dictionary.proofs.Steps.{Past, forward}
 use Rattle.dictionary.specs.Runs.{afterAtom, runFrom, tallyFrom, added, unlimited}
 
--- what the forgotten value leaves of an atom's read
+-- what the forgotten value leaves of an atom's read: a refusal as it was
+module _ (place : Place) (rest : Budget) (why : Refusal) where
+  read-refused : (h : HeaderAnswer) (a : AtomAnswer) → forgotten h a ≡ SK.Refused place rest why →
+      a ≡ A.Refused place rest why
+  read-refused (H.Read n k x) (A.Read p b y) e = absurd (false≢true cc)
+  read-refused (H.Read n k x) (A.Refused p b r) e = cc
+  read-refused (H.Refused n q) (A.Read p b y) e = absurd (false≢true cc)
+  read-refused (H.Refused n q) (A.Refused p b r) e = cc
+
+  pub step-refused : (s : List ℕ) (at : ℕ) (budget : Budget) → skipped s at budget ≡ SK.Refused place rest why →
+      atomRead W.ExactLent s at budget [] ≡ A.Refused place rest why
+  unfolding skipped
+  step-refused s at budget e = read-refused (headerRead W.ExactLent s at) (atomRead W.ExactLent s at budget []) e
+
+-- and of one that was read where it ends, and the budget left
 module _ {X : Type 0} (on : Place → Budget → X) (stop : Place → Budget → Refusal → X) (place : Place) (rest : Budget)
   where
     read-past : (h : HeaderAnswer) (a : AtomAnswer) (body : Place) (t : Bool) →
@@ -35,13 +49,6 @@ module _ {X : Type 0} (on : Place → Budget → X) (stop : Place → Budget →
     read-past (H.Refused n q) (A.Read p b y) body t e = cc
     read-past (H.Refused n q) (A.Refused p b r) body t e = absurd (false≢true cc)
 
-    read-refused : (h : HeaderAnswer) (a : AtomAnswer) (why : Refusal) → forgotten h a ≡ SK.Refused place rest why →
-        afterAtom a on stop ≡ stop place rest why
-    read-refused (H.Read n k x) (A.Read p b y) why e = absurd (false≢true cc)
-    read-refused (H.Read n k x) (A.Refused p b r) why e = cc
-    read-refused (H.Refused n q) (A.Read p b y) why e = absurd (false≢true cc)
-    read-refused (H.Refused n q) (A.Refused p b r) why e = cc
-
     module _ (s : List ℕ) (at : ℕ) (budget : Budget) where
       atom-past : (body : Place) (t : Bool) → Past s at budget place rest body t →
           afterAtom (atomRead W.ExactLent s at budget []) on stop ≡ on place rest
@@ -50,8 +57,7 @@ module _ {X : Type 0} (on : Place → Budget → X) (stop : Place → Budget →
 
       atom-refused : (why : Refusal) → skipped s at budget ≡ SK.Refused place rest why →
           afterAtom (atomRead W.ExactLent s at budget []) on stop ≡ stop place rest why
-      unfolding skipped
-      atom-refused why e = read-refused (headerRead W.ExactLent s at) (atomRead W.ExactLent s at budget []) why e
+      atom-refused why e = ap (λ (a : AtomAnswer). afterAtom a on stop) (step-refused place rest why s at budget e)
 
 -- a turn of the run
 module _ (s : List ℕ) (fuel left at : ℕ) (budget : Budget) (atoms : ℕ) (enough : fuel ≡ suc left) where

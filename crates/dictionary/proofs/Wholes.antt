@@ -1,16 +1,17 @@
--- The step at a whole, known atom, with a budget that covers its charge and with one that does not; and at bytes that
--- start with no such atom.
-use mathlib.Core.Path.{_≡_, _∙_, sym, ap}
-use mathlib.Core.Bool.{Bool}
+-- The step at a whole, known atom, with a budget that covers its charge; and at bytes that start with no such atom, or
+-- with one that the budget does not cover.
+use mathlib.Core.Path.{_≡_, refl, _∙_, sym, ap}
+use mathlib.Core.Bool.{Bool, true, false}
 use mathlib.Core.List.{List, _++_}
 use Prim.Native.Nat.{ℕ, _+_, _-_, _≤_, _<_}
 use native.Mathlib.Omega.{arith}
+use borrow.Author.Tests.{le-ltb, ltb-false}
+use lib.Dec.{ltb}
 use lib.ListN.{length, take, drop, length-append, length-drop}
 use lib.Seq.{drop-drop, drop-append-seam, drop-append-le, take-at}
 use Rattle.types.specs.Choice.{pick}
 use Rattle.types.specs.Forms.{known, isString, unknown}
 use Rattle.types.specs.declared.Kind.{Kind}
-use Rattle.types.specs.declared.Place.{Place}
 use Rattle.types.specs.declared.Budget.{Budget}
 use Rattle.types.specs.declared.Refusal.{Refusal}
 use Rattle.types.specs.declared.Refusal.the-variants as R
@@ -21,8 +22,9 @@ use Rattle.header.proofs.Fewest.{length-bounds, argument-word}
 use Rattle.dictionary.specs.Letters.{letters}
 use Rattle.dictionary.specs.Wholes.{IsAtom, price, bodyBytes, lettersIn, Spoilt}
 use Rattle.dictionary.specs.Wholes.{cut-header, not-known, cut-body}
+use Rattle.dictionary.specs.Prices.{asked, Barred, header-cut, over-budget, form-unknown, body-cut}
 use Rattle.dictionary.specs.Steps.{skipped, bodyPast, bodyAfter}
-use Rattle.dictionary.specs.Runs.{unlimited, added}
+use Rattle.dictionary.specs.Runs.{tallied, unlimited, added}
 use Rattle.dictionary.proofs.Bodies.{past-over, past-unknown, past-eof, past-whole}
 use Rattle.dictionary.proofs.Steps.{Past, step-cut, step-body, charge-word}
 use Rattle.dictionary.proofs.Fronts.{Front, front}
@@ -97,15 +99,6 @@ module _ (s : List ℕ) (at : ℕ) (within : at ≤ length s) (atom rest : List 
             (record { 0 = at + headerLength atom }) (isString k)) past-end;
       }
 
-  -- it is not: refusal 5, past the header, and the budget stays
-  pub atom-over : (budget : Budget) → budget .0 < price atom →
-      skipped s at budget
-      ≡ SK.Refused (record { 0 = at + headerLength atom }) (record { 0 = budget .0 }) R.TooManyBytesRead
-  atom-over budget h =
-      body-there budget
-      ∙ past-over (length s) (at + headerLength atom) (budget .0) (isString (headerKind atom)) (bodyBytes atom)
-      (price atom) (unknown (headerKind atom) (headerArgument atom)) (known (headerKind atom) (headerArgument atom)) h
-
 -- what the tally adds for it
 abbrev pub plus : Tallied → List ℕ → Tallied
 plus t atom = record {
@@ -114,9 +107,6 @@ plus t atom = record {
   charge = t .charge + price atom;
   letters = t .letters + lettersIn atom;
 }
-
-abbrev counted : ℕ → ℕ → ℕ → ℕ → Tallied
-counted a b c l = record { atoms = a; body = record { 0 = b }; charge = c; letters = l }
 
 body-length : (at n h b : ℕ) → n ≡ h + b → at + n - (at + h) ≡ b
 body-length at n h b e = omega arith
@@ -142,22 +132,18 @@ module _ (s : List ℕ) (at : ℕ) (atom rest : List ℕ) (here : drop at s ≡ 
       added s t (at + length atom) (unlimited - price atom) (at + headerLength atom) (isString (headerKind atom))
       ≡ plus t atom
   added-plus t =
-      ap (λ (x : ℕ). counted (t .atoms + 1) (t .body .0 + x) (t .charge + (unlimited - (unlimited - price atom)))
+      ap (λ (x : ℕ). tallied (t .atoms + 1) (t .body .0 + x) (t .charge + (unlimited - (unlimited - price atom)))
       (t .letters + pick (isString (headerKind atom))
       (letters (take (at + length atom - (at + headerLength atom)) (drop (at + headerLength atom) s))) 0))
       (body-length at (length atom) (headerLength atom) (bodyBytes atom) (w .its-length))
-      ∙ ap (λ (x : ℕ). counted (t .atoms + 1) (t .body .0 + bodyBytes atom) (t .charge + x)
+      ∙ ap (λ (x : ℕ). tallied (t .atoms + 1) (t .body .0 + bodyBytes atom) (t .charge + x)
       (t .letters + pick (isString (headerKind atom))
       (letters (take (at + length atom - (at + headerLength atom)) (drop (at + headerLength atom) s))) 0))
       (spent (price atom) (price-word atom))
-      ∙ ap (λ (x : List ℕ). counted (t .atoms + 1) (t .body .0 + bodyBytes atom) (t .charge + price atom)
+      ∙ ap (λ (x : List ℕ). tallied (t .atoms + 1) (t .body .0 + bodyBytes atom) (t .charge + price atom)
       (t .letters + pick (isString (headerKind atom)) (letters x) 0)) body-bytes
 
--- bytes that start with no whole, known atom: the step refuses, with the refusal of what stands there
-pub record Refuses (s : List ℕ) (at : ℕ) (why : Refusal) : Type 0 where
-  pub place : Place
-  pub left : Budget
-  pub refused : skipped s at (record { 0 = unlimited }) ≡ SK.Refused place left why
+-- ---- bytes whose first atom is refused
 
 room-of : (s at n : ℕ) → at ≤ s → n ≤ s - at → at + n ≤ s
 room-of s at n h k = omega arith
@@ -168,48 +154,85 @@ past-of s at n h k = omega arith
 past-both : (s at h b : ℕ) → at ≤ s → s - at < h + b → s < at + h + b
 past-both s at h b p k = omega arith
 
-module _ (s : List ℕ) (at : ℕ) (within : at ≤ length s) where
+module _ (s : List ℕ) (at : ℕ) (within : at ≤ length s) (l : List ℕ) (here : drop at s ≡ l) (left : ℕ) where
+  rest-length : length l ≡ length s - at
+  rest-length = ap length (sym here) ∙ length-drop at s
+
+  rest-end : length s ≡ at + length l
+  rest-end = omega (arith, rest-length)
+
   -- a header that is whole: the step is what the body does
-  body-at : {t : Bool} (l : List ℕ) → drop at s ≡ l → headerLength l ≤ length l → length l ≡ length s - at →
-      known (headerKind l) (headerArgument l) ≡ t →
-      skipped s at (record { 0 = unlimited })
-      ≡ bodyPast (length s) (at + headerLength l) unlimited (isString (headerKind l)) (bodyBytes l) (price l) t
+  body-at : {t : Bool} → headerLength l ≤ length l → known (headerKind l) (headerArgument l) ≡ t →
+      skipped s at (record { 0 = left })
+      ≡ bodyPast (length s) (at + headerLength l) left (isString (headerKind l)) (bodyBytes l) (price l) t
       (unknown (headerKind l) (headerArgument l))
-  body-at l here h n k =
-      step-body s at within (record { 0 = unlimited })
-      (room-of (length s) at (headerLength (drop at s)) within (rw (← n, here) h))
-      ∙ ap (λ (x : List ℕ). bodyAfter (length s) (headerKind x) (headerArgument x) (at + headerLength x) unlimited) here
-      ∙ ap (λ (t : Bool). bodyPast (length s) (at + headerLength l) unlimited (isString (headerKind l)) (bodyBytes l)
+  body-at h k =
+      step-body s at within (record { 0 = left })
+      (room-of (length s) at (headerLength (drop at s)) within (rw (← rest-length, here) h))
+      ∙ ap (λ (x : List ℕ). bodyAfter (length s) (headerKind x) (headerArgument x) (at + headerLength x) left) here
+      ∙ ap (λ (t : Bool). bodyPast (length s) (at + headerLength l) left (isString (headerKind l)) (bodyBytes l)
       (price l) t (unknown (headerKind l) (headerArgument l))) k
 
-  spoilt-at : (l : List ℕ) (why : Refusal) → drop at s ≡ l → Spoilt l why → length l ≡ length s - at → Refuses s at why
-  spoilt-at l why here (cut-header h) n =
-      record {
-        place = record { 0 = length s };
-        left = record { 0 = unlimited };
-        refused =
-            step-cut s at within (record { 0 = unlimited })
-            (past-of (length s) at (headerLength (drop at s)) within (rw (← n, here) h));
-      }
-  spoilt-at l why here (not-known h k) n =
-      record {
-        place = record { 0 = at + headerLength l };
-        left = record { 0 = unlimited - price l };
-        refused =
-            body-at l here h n k
-            ∙ past-unknown (length s) (at + headerLength l) unlimited (isString (headerKind l)) (bodyBytes l)
-            (price l) (unknown (headerKind l) (headerArgument l)) (price-word l);
-      }
-  spoilt-at l why here (cut-body h k m) n =
-      record {
-        place = record { 0 = length s };
-        left = record { 0 = unlimited - price l };
-        refused =
-            body-at l here h n k
-            ∙ past-eof (length s) (at + headerLength l) unlimited (isString (headerKind l)) (bodyBytes l) (price l)
-            (unknown (headerKind l) (headerArgument l)) (price-word l)
-            (past-both (length s) at (headerLength l) (bodyBytes l) within (rw (← n) m));
-      }
+  -- the step refuses, with the refusal of what stands there
+  pub barred-refuses : {why : Refusal} {past charge : ℕ} → Barred l left why past charge →
+      skipped s at (record { 0 = left }) ≡ SK.Refused (record { 0 = at + past }) (record { 0 = left - charge }) why
+  barred-refuses (header-cut h) =
+      let a = rest-end in
+      let b : left ≡ left - 0 = omega arith in
+      let e = step-cut s at within (record { 0 = left })
+      (past-of (length s) at (headerLength (drop at s)) within (rw (← rest-length, here) h)) in
+      cc
+  barred-refuses (over-budget h c) =
+      let b : left ≡ left - 0 = omega arith in
+      let e = body-at h refl
+      ∙ past-over (length s) (at + headerLength l) left (isString (headerKind l)) (bodyBytes l) (price l)
+      (unknown (headerKind l) (headerArgument l)) (known (headerKind l) (headerArgument l)) c in
+      cc
+  barred-refuses (form-unknown h c k) =
+      body-at h k
+      ∙ past-unknown (length s) (at + headerLength l) left (isString (headerKind l)) (bodyBytes l) (price l)
+      (unknown (headerKind l) (headerArgument l)) c
+  barred-refuses (body-cut h c k m) =
+      let a = rest-end in
+      let e = body-at h k
+      ∙ past-eof (length s) (at + headerLength l) left (isString (headerKind l)) (bodyBytes l) (price l)
+      (unknown (headerKind l) (headerArgument l)) c
+      (past-both (length s) at (headerLength l) (bodyBytes l) within (rw (← rest-length) m)) in
+      cc
 
-  pub spoilt-refuses : (l : List ℕ) (why : Refusal) → drop at s ≡ l → Spoilt l why → Refuses s at why
-  spoilt-refuses l why here bad = spoilt-at l why here bad (ap length (sym here) ∙ length-drop at s)
+-- a budget that covers what is asked there: the refusal is that of bytes that start with no whole, known atom
+pub record Bars (l : List ℕ) (left : ℕ) (why : Refusal) : Type 0 where
+  pub past : ℕ
+  pub charge : ℕ
+  pub bars : Barred l left why past charge
+
+there-asks : (l : List ℕ) → headerLength l ≤ length l → asked l ≡ price l
+there-asks l h = simp (le-ltb (length l) (headerLength l) h)
+
+pub spoilt-bars : (l : List ℕ) (left : ℕ) (why : Refusal) → Spoilt l why → asked l ≤ left → Bars l left why
+spoilt-bars l left why (cut-header h) c = record { past = length l; charge = 0; bars = header-cut h }
+spoilt-bars l left why (not-known h k) c =
+    let e = there-asks l h in
+    record { past = headerLength l; charge = price l; bars = form-unknown h (omega arith) k }
+spoilt-bars l left why (cut-body h k m) c =
+    let e = there-asks l h in
+    record { past = length l; charge = price l; bars = body-cut h (omega arith) k m }
+
+-- one that does not: 5
+pub dear-bars : (l : List ℕ) (left : ℕ) → left < asked l → Bars l left R.TooManyBytesRead
+dear-bars l left c = by (ltb (length l) (headerLength l)) refl
+  where
+    by : (t : Bool) → ltb (length l) (headerLength l) ≡ t → Bars l left R.TooManyBytesRead
+    by true e = let k : left < 0 = rw e at c in absurd (omega arith)
+    by false e =
+        let h = ltb-false (length l) (headerLength l) e in
+        let k = there-asks l h in
+        record { past = headerLength l; charge = 0; bars = over-budget h (omega arith) }
+
+-- the largest budget covers it
+pub asked-word : (l : List ℕ) → asked l ≤ unlimited
+asked-word l = by (ltb (length l) (headerLength l)) (price-word l)
+  where
+    by : (t : Bool) → price l ≤ unlimited → pick t 0 (price l) ≤ unlimited
+    by true h = omega arith
+    by false h = h

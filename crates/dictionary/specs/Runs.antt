@@ -76,12 +76,12 @@ tallyFrom (suc fuel) s at t =
 abbrev pub nothing : Tallied
 nothing = tallied 0 0 0 0
 
--- "10 TooLong: tally input over 16,777,216 bytes"
+-- "10 TooLong: tally input over 16,777,216 bytes", and the place after it: "none"
 abbrev pub mostBytes : ℕ
 mostBytes = 16_777_216
 
 -- THE TALLY: "judges its length first, then applies exact reading without a budget"
 abbrev pub tallyAll : List ℕ → TallyAnswer
 tallyAll s =
-    pick (ltb mostBytes (length s)) (TA.Stopped (record { 0 = 0 }) R.TooLong)
+    pick (ltb mostBytes (length s)) (TA.Refused R.TooLong)
     (tallyFrom (suc (length s)) s 0 nothing)

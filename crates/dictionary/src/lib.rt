@@ -278,7 +278,7 @@ pub fn tally(source: &[u8]) -> TallyAnswer
     ensures { λ r. ⌜ r ≡ tallyAll (now (source .entry)) ⌝ }
 {
     if 16_777_216 < source.len() {
-        return TallyAnswer::Stopped(Place(0), Refusal::TooLong);
+        return TallyAnswer::Refused(Refusal::TooLong);
     }
     let mut atoms: u64 = 0;
     let mut body = BodyBytes(0);

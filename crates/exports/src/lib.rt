@@ -3,8 +3,9 @@
 ghost use mathlib.Core.Path.{_≡_};
 ghost use mathlib.Core.Bool.{not};
 ghost use mathlib.Core.List.{[]};
-ghost use lib.Dec.{eqb};
+ghost use lib.Dec.{eqb, ltb};
 ghost use lib.Ieee.{binary32, binary64, ofBits};
+ghost use Rattle.types.specs.Choice.{pick};
 ghost use Rattle.types.specs.Kinds.{kindFrom, specialFrom};
 ghost use Rattle.types.specs.Ways.{unnamedWay};
 ghost use Rattle.types.specs.declared.Way.the-variants.{ExactLent, ExactCopied};
@@ -27,7 +28,7 @@ ghost use Rattle.dictionary.specs.Steps.{skipped};
 ghost use Rattle.dictionary.specs.Runs.{runAll, tallyAll};
 ghost use Rattle.words.specs.Layout.{numberOf, wordsOf, unlessShort, saidAtom, saidSkipped, saidRan, saidTally, saidVersion, saidWritten};
 ghost use Rattle.words.specs.Layout.{saidRefused, saidWord, saidCast, saidAsInteger, saidAsF32, saidAsF64, saidNarrowed};
-ghost use Rattle.recast.specs.Recasts.{recast, integerFrom, ofInteger};
+ghost use Rattle.recast.specs.Recasts.{recast, integerOfWords, ofInteger};
 ghost use Rattle.exports.specs.Named.{ofKind, ofSpecial};
 use types::AsInteger;
 use types::Budget;
@@ -40,22 +41,31 @@ use types::SpecialAnswer;
 use types::Way;
 use types::Wide;
 
-// Reads an atom under a way: the one place that calls the reader.
+// How much of a buffer is lent to a writer: all of it, or nothing where the eight words have no room, since nothing is
+// done then. With no byte lent nothing is written, and what says the answer refuses for the words.
+fn granted(words: usize, room: usize) -> usize
+    ensures { λ r. ⌜ r ≡ pick (ltb words 8) 0 room ⌝ }
+{
+    if words < 8 {
+        return 0;
+    }
+    room
+}
+
+// Reads an atom under a way: the one place that calls the reader. The words stand first, so that they go in registers:
+// where a caller laid their address and number on the stack one by one, to pass both on in one move would have to wait.
 fn read_by(
+    words: &mut [u64],
     source: &[u8],
+    scratch: &mut [u8],
     place: usize,
     budget: u64,
-    scratch: &mut [u8],
     way: Way,
-    words: &mut [u64],
 ) -> u64
     ensures { λ r. ⌜ r ≡ numberOf (saidAtom (atomRead way (now (source .entry)) place (record { 0 = budget }) (now (scratch .entry)))) (now (words .entry)) ⌝ }
     ensures { λ r. ⌜ now (words .exit) ≡ wordsOf (saidAtom (atomRead way (now (source .entry)) place (record { 0 = budget }) (now (scratch .entry)))) (now (words .entry)) ⌝ }
-    ensures { λ r. ⌜ now (scratch .exit) ≡ unlessShort (now (words .entry)) (now (scratch .entry)) (atomScratch way (now (source .entry)) place (record { 0 = budget }) (now (scratch .entry))) ⌝ }
+    ensures { λ r. ⌜ now (scratch .exit) ≡ atomScratch way (now (source .entry)) place (record { 0 = budget }) (now (scratch .entry)) ⌝ }
 {
-    if words.len() < 8 {
-        return 9;
-    }
     let answer = atom::read_atom_by(source, Place(place), Budget(budget), scratch, way);
     words::say_atom(words, answer)
 }
@@ -67,7 +77,7 @@ pub extern "C" fn pot_read_atom(source: &[u8], place: usize, budget: u64, words:
     ensures { λ r. ⌜ now (words .exit) ≡ wordsOf (saidAtom (atomRead unnamedWay (now (source .entry)) place (record { 0 = budget }) [])) (now (words .entry)) ⌝ }
 {
     let mut scratch = [0u8; 0];
-    read_by(source, place, budget, &mut scratch, Way::unnamed(), words)
+    read_by(words, source, &mut scratch, place, budget, Way::unnamed())
 }
 
 // Reads an atom exactly; a string is lent.
@@ -82,7 +92,7 @@ pub extern "C" fn pot_read_atom_exact(
     ensures { λ r. ⌜ now (words .exit) ≡ wordsOf (saidAtom (atomRead ExactLent (now (source .entry)) place (record { 0 = budget }) [])) (now (words .entry)) ⌝ }
 {
     let mut scratch = [0u8; 0];
-    read_by(source, place, budget, &mut scratch, Way::ExactLent, words)
+    read_by(words, source, &mut scratch, place, budget, Way::ExactLent)
 }
 
 // Reads an atom exactly; a string is copied into scratch.
@@ -98,7 +108,15 @@ pub extern "C" fn pot_read_atom_copied(
     ensures { λ r. ⌜ now (words .exit) ≡ wordsOf (saidAtom (atomRead ExactCopied (now (source .entry)) place (record { 0 = budget }) (now (scratch .entry)))) (now (words .entry)) ⌝ }
     ensures { λ r. ⌜ now (scratch .exit) ≡ unlessShort (now (words .entry)) (now (scratch .entry)) (atomScratch ExactCopied (now (source .entry)) place (record { 0 = budget }) (now (scratch .entry))) ⌝ }
 {
-    read_by(source, place, budget, scratch, Way::ExactCopied, words)
+    let room = granted(words.len(), scratch.len());
+    read_by(
+        words,
+        source,
+        &mut scratch[0..room],
+        place,
+        budget,
+        Way::ExactCopied,
+    )
 }
 
 // Reads an atom exactly and builds no value.
@@ -164,10 +182,8 @@ pub extern "C" fn pot_write_header(out: &mut [u8], version: u8, words: &mut [u64
     ensures { λ r. ⌜ now (words .exit) ≡ wordsOf (saidWritten (writtenAnswer (signatureBytes version) (now (out .entry)))) (now (words .entry)) ⌝ }
     ensures { λ r. ⌜ now (out .exit) ≡ unlessShort (now (words .entry)) (now (out .entry)) (writtenContent (signatureBytes version) (now (out .entry))) ⌝ }
 {
-    if words.len() < 8 {
-        return 9;
-    }
-    let answer = header::write_header(out, version);
+    let room = granted(words.len(), out.len());
+    let answer = header::write_header(&mut out[0..room], version);
     words::say_written(words, answer)
 }
 
@@ -178,10 +194,8 @@ pub extern "C" fn pot_write_none(out: &mut [u8], words: &mut [u64]) -> u64
     ensures { λ r. ⌜ now (words .exit) ≡ wordsOf (saidWritten (writtenAnswer (specialBytes None) (now (out .entry)))) (now (words .entry)) ⌝ }
     ensures { λ r. ⌜ now (out .exit) ≡ unlessShort (now (words .entry)) (now (out .entry)) (writtenContent (specialBytes None) (now (out .entry))) ⌝ }
 {
-    if words.len() < 8 {
-        return 9;
-    }
-    let answer = writers::write_none(out);
+    let room = granted(words.len(), out.len());
+    let answer = writers::write_none(&mut out[0..room]);
     words::say_written(words, answer)
 }
 
@@ -192,10 +206,8 @@ pub extern "C" fn pot_write_unit(out: &mut [u8], words: &mut [u64]) -> u64
     ensures { λ r. ⌜ now (words .exit) ≡ wordsOf (saidWritten (writtenAnswer (specialBytes Unit) (now (out .entry)))) (now (words .entry)) ⌝ }
     ensures { λ r. ⌜ now (out .exit) ≡ unlessShort (now (words .entry)) (now (out .entry)) (writtenContent (specialBytes Unit) (now (out .entry))) ⌝ }
 {
-    if words.len() < 8 {
-        return 9;
-    }
-    let answer = writers::write_unit(out);
+    let room = granted(words.len(), out.len());
+    let answer = writers::write_unit(&mut out[0..room]);
     words::say_written(words, answer)
 }
 
@@ -206,10 +218,8 @@ pub extern "C" fn pot_write_named(out: &mut [u8], words: &mut [u64]) -> u64
     ensures { λ r. ⌜ now (words .exit) ≡ wordsOf (saidWritten (writtenAnswer (specialBytes Named) (now (out .entry)))) (now (words .entry)) ⌝ }
     ensures { λ r. ⌜ now (out .exit) ≡ unlessShort (now (words .entry)) (now (out .entry)) (writtenContent (specialBytes Named) (now (out .entry))) ⌝ }
 {
-    if words.len() < 8 {
-        return 9;
-    }
-    let answer = writers::write_named(out);
+    let room = granted(words.len(), out.len());
+    let answer = writers::write_named(&mut out[0..room]);
     words::say_written(words, answer)
 }
 
@@ -220,10 +230,8 @@ pub extern "C" fn pot_write_i8(out: &mut [u8], value: i8, words: &mut [u64]) -> 
     ensures { λ r. ⌜ now (words .exit) ≡ wordsOf (saidWritten (writtenAnswer (signedBytes value) (now (out .entry)))) (now (words .entry)) ⌝ }
     ensures { λ r. ⌜ now (out .exit) ≡ unlessShort (now (words .entry)) (now (out .entry)) (writtenContent (signedBytes value) (now (out .entry))) ⌝ }
 {
-    if words.len() < 8 {
-        return 9;
-    }
-    let answer = writers::write_i8(out, value);
+    let room = granted(words.len(), out.len());
+    let answer = writers::write_i8(&mut out[0..room], value);
     words::say_written(words, answer)
 }
 
@@ -234,10 +242,8 @@ pub extern "C" fn pot_write_u8(out: &mut [u8], value: u8, words: &mut [u64]) -> 
     ensures { λ r. ⌜ now (words .exit) ≡ wordsOf (saidWritten (writtenAnswer (unsignedBytes value) (now (out .entry)))) (now (words .entry)) ⌝ }
     ensures { λ r. ⌜ now (out .exit) ≡ unlessShort (now (words .entry)) (now (out .entry)) (writtenContent (unsignedBytes value) (now (out .entry))) ⌝ }
 {
-    if words.len() < 8 {
-        return 9;
-    }
-    let answer = writers::write_u8(out, value);
+    let room = granted(words.len(), out.len());
+    let answer = writers::write_u8(&mut out[0..room], value);
     words::say_written(words, answer)
 }
 
@@ -248,10 +254,8 @@ pub extern "C" fn pot_write_i16(out: &mut [u8], value: i16, words: &mut [u64]) -
     ensures { λ r. ⌜ now (words .exit) ≡ wordsOf (saidWritten (writtenAnswer (signedBytes value) (now (out .entry)))) (now (words .entry)) ⌝ }
     ensures { λ r. ⌜ now (out .exit) ≡ unlessShort (now (words .entry)) (now (out .entry)) (writtenContent (signedBytes value) (now (out .entry))) ⌝ }
 {
-    if words.len() < 8 {
-        return 9;
-    }
-    let answer = writers::write_i16(out, value);
+    let room = granted(words.len(), out.len());
+    let answer = writers::write_i16(&mut out[0..room], value);
     words::say_written(words, answer)
 }
 
@@ -262,10 +266,8 @@ pub extern "C" fn pot_write_u16(out: &mut [u8], value: u16, words: &mut [u64]) -
     ensures { λ r. ⌜ now (words .exit) ≡ wordsOf (saidWritten (writtenAnswer (unsignedBytes value) (now (out .entry)))) (now (words .entry)) ⌝ }
     ensures { λ r. ⌜ now (out .exit) ≡ unlessShort (now (words .entry)) (now (out .entry)) (writtenContent (unsignedBytes value) (now (out .entry))) ⌝ }
 {
-    if words.len() < 8 {
-        return 9;
-    }
-    let answer = writers::write_u16(out, value);
+    let room = granted(words.len(), out.len());
+    let answer = writers::write_u16(&mut out[0..room], value);
     words::say_written(words, answer)
 }
 
@@ -276,10 +278,8 @@ pub extern "C" fn pot_write_i24(out: &mut [u8], value: i32, words: &mut [u64]) -
     ensures { λ r. ⌜ now (words .exit) ≡ wordsOf (saidWritten (heldAnswer (holdsS 3 value) (signedBytes value) (now (out .entry)))) (now (words .entry)) ⌝ }
     ensures { λ r. ⌜ now (out .exit) ≡ unlessShort (now (words .entry)) (now (out .entry)) (heldContent (holdsS 3 value) (signedBytes value) (now (out .entry))) ⌝ }
 {
-    if words.len() < 8 {
-        return 9;
-    }
-    let answer = writers::write_i24(out, value);
+    let room = granted(words.len(), out.len());
+    let answer = writers::write_i24(&mut out[0..room], value);
     words::say_written(words, answer)
 }
 
@@ -290,10 +290,8 @@ pub extern "C" fn pot_write_u24(out: &mut [u8], value: u32, words: &mut [u64]) -
     ensures { λ r. ⌜ now (words .exit) ≡ wordsOf (saidWritten (heldAnswer (holdsU 3 value) (unsignedBytes value) (now (out .entry)))) (now (words .entry)) ⌝ }
     ensures { λ r. ⌜ now (out .exit) ≡ unlessShort (now (words .entry)) (now (out .entry)) (heldContent (holdsU 3 value) (unsignedBytes value) (now (out .entry))) ⌝ }
 {
-    if words.len() < 8 {
-        return 9;
-    }
-    let answer = writers::write_u24(out, value);
+    let room = granted(words.len(), out.len());
+    let answer = writers::write_u24(&mut out[0..room], value);
     words::say_written(words, answer)
 }
 
@@ -304,10 +302,8 @@ pub extern "C" fn pot_write_i32(out: &mut [u8], value: i32, words: &mut [u64]) -
     ensures { λ r. ⌜ now (words .exit) ≡ wordsOf (saidWritten (writtenAnswer (signedBytes value) (now (out .entry)))) (now (words .entry)) ⌝ }
     ensures { λ r. ⌜ now (out .exit) ≡ unlessShort (now (words .entry)) (now (out .entry)) (writtenContent (signedBytes value) (now (out .entry))) ⌝ }
 {
-    if words.len() < 8 {
-        return 9;
-    }
-    let answer = writers::write_i32(out, value);
+    let room = granted(words.len(), out.len());
+    let answer = writers::write_i32(&mut out[0..room], value);
     words::say_written(words, answer)
 }
 
@@ -318,10 +314,8 @@ pub extern "C" fn pot_write_u32(out: &mut [u8], value: u32, words: &mut [u64]) -
     ensures { λ r. ⌜ now (words .exit) ≡ wordsOf (saidWritten (writtenAnswer (unsignedBytes value) (now (out .entry)))) (now (words .entry)) ⌝ }
     ensures { λ r. ⌜ now (out .exit) ≡ unlessShort (now (words .entry)) (now (out .entry)) (writtenContent (unsignedBytes value) (now (out .entry))) ⌝ }
 {
-    if words.len() < 8 {
-        return 9;
-    }
-    let answer = writers::write_u32(out, value);
+    let room = granted(words.len(), out.len());
+    let answer = writers::write_u32(&mut out[0..room], value);
     words::say_written(words, answer)
 }
 
@@ -332,10 +326,8 @@ pub extern "C" fn pot_write_i48(out: &mut [u8], value: i64, words: &mut [u64]) -
     ensures { λ r. ⌜ now (words .exit) ≡ wordsOf (saidWritten (heldAnswer (holdsS 6 value) (signedBytes value) (now (out .entry)))) (now (words .entry)) ⌝ }
     ensures { λ r. ⌜ now (out .exit) ≡ unlessShort (now (words .entry)) (now (out .entry)) (heldContent (holdsS 6 value) (signedBytes value) (now (out .entry))) ⌝ }
 {
-    if words.len() < 8 {
-        return 9;
-    }
-    let answer = writers::write_i48(out, value);
+    let room = granted(words.len(), out.len());
+    let answer = writers::write_i48(&mut out[0..room], value);
     words::say_written(words, answer)
 }
 
@@ -346,10 +338,8 @@ pub extern "C" fn pot_write_u48(out: &mut [u8], value: u64, words: &mut [u64]) -
     ensures { λ r. ⌜ now (words .exit) ≡ wordsOf (saidWritten (heldAnswer (holdsU 6 value) (unsignedBytes value) (now (out .entry)))) (now (words .entry)) ⌝ }
     ensures { λ r. ⌜ now (out .exit) ≡ unlessShort (now (words .entry)) (now (out .entry)) (heldContent (holdsU 6 value) (unsignedBytes value) (now (out .entry))) ⌝ }
 {
-    if words.len() < 8 {
-        return 9;
-    }
-    let answer = writers::write_u48(out, value);
+    let room = granted(words.len(), out.len());
+    let answer = writers::write_u48(&mut out[0..room], value);
     words::say_written(words, answer)
 }
 
@@ -360,10 +350,8 @@ pub extern "C" fn pot_write_i64(out: &mut [u8], value: i64, words: &mut [u64]) -
     ensures { λ r. ⌜ now (words .exit) ≡ wordsOf (saidWritten (writtenAnswer (signedBytes value) (now (out .entry)))) (now (words .entry)) ⌝ }
     ensures { λ r. ⌜ now (out .exit) ≡ unlessShort (now (words .entry)) (now (out .entry)) (writtenContent (signedBytes value) (now (out .entry))) ⌝ }
 {
-    if words.len() < 8 {
-        return 9;
-    }
-    let answer = writers::write_i64(out, value);
+    let room = granted(words.len(), out.len());
+    let answer = writers::write_i64(&mut out[0..room], value);
     words::say_written(words, answer)
 }
 
@@ -374,10 +362,8 @@ pub extern "C" fn pot_write_u64(out: &mut [u8], value: u64, words: &mut [u64]) -
     ensures { λ r. ⌜ now (words .exit) ≡ wordsOf (saidWritten (writtenAnswer (unsignedBytes value) (now (out .entry)))) (now (words .entry)) ⌝ }
     ensures { λ r. ⌜ now (out .exit) ≡ unlessShort (now (words .entry)) (now (out .entry)) (writtenContent (unsignedBytes value) (now (out .entry))) ⌝ }
 {
-    if words.len() < 8 {
-        return 9;
-    }
-    let answer = writers::write_u64(out, value);
+    let room = granted(words.len(), out.len());
+    let answer = writers::write_u64(&mut out[0..room], value);
     words::say_written(words, answer)
 }
 
@@ -388,10 +374,8 @@ pub extern "C" fn pot_write_i128(out: &mut [u8], low: u64, high: u64, words: &mu
     ensures { λ r. ⌜ now (words .exit) ≡ wordsOf (saidWritten (writtenAnswer (signedBytes (joinedSigned (record { lo = low; hi = high }))) (now (out .entry)))) (now (words .entry)) ⌝ }
     ensures { λ r. ⌜ now (out .exit) ≡ unlessShort (now (words .entry)) (now (out .entry)) (writtenContent (signedBytes (joinedSigned (record { lo = low; hi = high }))) (now (out .entry))) ⌝ }
 {
-    if words.len() < 8 {
-        return 9;
-    }
-    let answer = writers::write_i128(out, Wide { lo: low, hi: high });
+    let room = granted(words.len(), out.len());
+    let answer = writers::write_i128(&mut out[0..room], Wide { lo: low, hi: high });
     words::say_written(words, answer)
 }
 
@@ -402,10 +386,8 @@ pub extern "C" fn pot_write_u128(out: &mut [u8], low: u64, high: u64, words: &mu
     ensures { λ r. ⌜ now (words .exit) ≡ wordsOf (saidWritten (writtenAnswer (unsignedBytes (joined (record { lo = low; hi = high }))) (now (out .entry)))) (now (words .entry)) ⌝ }
     ensures { λ r. ⌜ now (out .exit) ≡ unlessShort (now (words .entry)) (now (out .entry)) (writtenContent (unsignedBytes (joined (record { lo = low; hi = high }))) (now (out .entry))) ⌝ }
 {
-    if words.len() < 8 {
-        return 9;
-    }
-    let answer = writers::write_u128(out, Wide { lo: low, hi: high });
+    let room = granted(words.len(), out.len());
+    let answer = writers::write_u128(&mut out[0..room], Wide { lo: low, hi: high });
     words::say_written(words, answer)
 }
 
@@ -416,10 +398,8 @@ pub extern "C" fn pot_write_bytes(out: &mut [u8], value: &[u8], words: &mut [u64
     ensures { λ r. ⌜ now (words .exit) ≡ wordsOf (saidWritten (writtenAnswer (bytesBytes (now (value .entry))) (now (out .entry)))) (now (words .entry)) ⌝ }
     ensures { λ r. ⌜ now (out .exit) ≡ unlessShort (now (words .entry)) (now (out .entry)) (writtenContent (bytesBytes (now (value .entry))) (now (out .entry))) ⌝ }
 {
-    if words.len() < 8 {
-        return 9;
-    }
-    let answer = writers::write_bytes(out, value);
+    let room = granted(words.len(), out.len());
+    let answer = writers::write_bytes(&mut out[0..room], value);
     words::say_written(words, answer)
 }
 
@@ -430,10 +410,8 @@ pub extern "C" fn pot_write_f32(out: &mut [u8], bits: u32, words: &mut [u64]) ->
     ensures { λ r. ⌜ now (words .exit) ≡ wordsOf (saidWritten (writtenAnswer (f32Bytes bits) (now (out .entry)))) (now (words .entry)) ⌝ }
     ensures { λ r. ⌜ now (out .exit) ≡ unlessShort (now (words .entry)) (now (out .entry)) (writtenContent (f32Bytes bits) (now (out .entry))) ⌝ }
 {
-    if words.len() < 8 {
-        return 9;
-    }
-    let answer = float::write_f32_bits(out, bits);
+    let room = granted(words.len(), out.len());
+    let answer = float::write_f32_bits(&mut out[0..room], bits);
     words::say_written(words, answer)
 }
 
@@ -444,10 +422,8 @@ pub extern "C" fn pot_write_f64(out: &mut [u8], bits: u64, words: &mut [u64]) ->
     ensures { λ r. ⌜ now (words .exit) ≡ wordsOf (saidWritten (writtenAnswer (f64Bytes bits) (now (out .entry)))) (now (words .entry)) ⌝ }
     ensures { λ r. ⌜ now (out .exit) ≡ unlessShort (now (words .entry)) (now (out .entry)) (writtenContent (f64Bytes bits) (now (out .entry))) ⌝ }
 {
-    if words.len() < 8 {
-        return 9;
-    }
-    let answer = float::write_f64_bits(out, bits);
+    let room = granted(words.len(), out.len());
+    let answer = float::write_f64_bits(&mut out[0..room], bits);
     words::say_written(words, answer)
 }
 
@@ -463,12 +439,10 @@ pub extern "C" fn pot_write_atom_header(
     ensures { λ r. ⌜ now (words .exit) ≡ wordsOf (saidWritten (ofKind (λ k. writtenAnswer (headerBytes k arg) (now (out .entry))) Refused (kindFrom kind))) (now (words .entry)) ⌝ }
     ensures { λ r. ⌜ now (out .exit) ≡ unlessShort (now (words .entry)) (now (out .entry)) (ofKind (λ k. writtenContent (headerBytes k arg) (now (out .entry))) (λ r. (now (out .entry))) (kindFrom kind)) ⌝ }
 {
-    if words.len() < 8 {
-        return 9;
-    }
+    let room = granted(words.len(), out.len());
     match Kind::from_u8(kind) {
         KindAnswer::Known(known) => {
-            let answer = header::write_atom_header(out, known, arg);
+            let answer = header::write_atom_header(&mut out[0..room], known, arg);
             return words::say_written(words, answer);
         }
         KindAnswer::Refused(refusal) => return words::say_refused(words, refusal),
@@ -482,12 +456,10 @@ pub extern "C" fn pot_write_special(out: &mut [u8], special: u64, words: &mut [u
     ensures { λ r. ⌜ now (words .exit) ≡ wordsOf (saidWritten (ofSpecial (λ k. writtenAnswer (specialBytes k) (now (out .entry))) Refused (specialFrom special))) (now (words .entry)) ⌝ }
     ensures { λ r. ⌜ now (out .exit) ≡ unlessShort (now (words .entry)) (now (out .entry)) (ofSpecial (λ k. writtenContent (specialBytes k) (now (out .entry))) (λ r. (now (out .entry))) (specialFrom special)) ⌝ }
 {
-    if words.len() < 8 {
-        return 9;
-    }
+    let room = granted(words.len(), out.len());
     match Special::try_from(special) {
         SpecialAnswer::Known(known) => {
-            let answer = writers::write_special(out, known);
+            let answer = writers::write_special(&mut out[0..room], known);
             return words::say_written(words, answer);
         }
         SpecialAnswer::Refused(refusal) => return words::say_refused(words, refusal),
@@ -503,16 +475,14 @@ pub extern "C" fn pot_write_integer(
     high: u64,
     words: &mut [u64],
 ) -> u64
-    ensures { λ r. ⌜ r ≡ numberOf (saidWritten (ofInteger (λ k. writtenAnswer (valueBytes k) (now (out .entry))) Refused (integerFrom variant (record { lo = low; hi = high })))) (now (words .entry)) ⌝ }
-    ensures { λ r. ⌜ now (words .exit) ≡ wordsOf (saidWritten (ofInteger (λ k. writtenAnswer (valueBytes k) (now (out .entry))) Refused (integerFrom variant (record { lo = low; hi = high })))) (now (words .entry)) ⌝ }
-    ensures { λ r. ⌜ now (out .exit) ≡ unlessShort (now (words .entry)) (now (out .entry)) (ofInteger (λ k. writtenContent (valueBytes k) (now (out .entry))) (λ r. (now (out .entry))) (integerFrom variant (record { lo = low; hi = high }))) ⌝ }
+    ensures { λ r. ⌜ r ≡ numberOf (saidWritten (ofInteger (λ k. writtenAnswer (valueBytes k) (now (out .entry))) Refused (integerOfWords variant (record { lo = low; hi = high })))) (now (words .entry)) ⌝ }
+    ensures { λ r. ⌜ now (words .exit) ≡ wordsOf (saidWritten (ofInteger (λ k. writtenAnswer (valueBytes k) (now (out .entry))) Refused (integerOfWords variant (record { lo = low; hi = high })))) (now (words .entry)) ⌝ }
+    ensures { λ r. ⌜ now (out .exit) ≡ unlessShort (now (words .entry)) (now (out .entry)) (ofInteger (λ k. writtenContent (valueBytes k) (now (out .entry))) (λ r. (now (out .entry))) (integerOfWords variant (record { lo = low; hi = high }))) ⌝ }
 {
-    if words.len() < 8 {
-        return 9;
-    }
+    let room = granted(words.len(), out.len());
     match recast::integer_from(variant, low, high) {
         AsInteger::Value(known) => {
-            let answer = writers::write_to(out, known);
+            let answer = writers::write_to(&mut out[0..room], known);
             return words::say_written(words, answer);
         }
         AsInteger::Refused(refusal) => return words::say_refused(words, refusal),
@@ -526,10 +496,8 @@ pub extern "C" fn pot_write_bool(out: &mut [u8], value: u8, words: &mut [u64]) -
     ensures { λ r. ⌜ now (words .exit) ≡ wordsOf (saidWritten (writtenAnswer (specialBytes (truth (not (eqb value 0)))) (now (out .entry)))) (now (words .entry)) ⌝ }
     ensures { λ r. ⌜ now (out .exit) ≡ unlessShort (now (words .entry)) (now (out .entry)) (writtenContent (specialBytes (truth (not (eqb value 0)))) (now (out .entry))) ⌝ }
 {
-    if words.len() < 8 {
-        return 9;
-    }
-    let answer = writers::write_bool(out, value != 0);
+    let room = granted(words.len(), out.len());
+    let answer = writers::write_bool(&mut out[0..room], value != 0);
     words::say_written(words, answer)
 }
 
@@ -542,8 +510,8 @@ pub extern "C" fn pot_integer_cast(
     high: u64,
     words: &mut [u64],
 ) -> u64
-    ensures { λ r. ⌜ r ≡ numberOf (ofInteger (λ x. saidCast (recast to x)) saidRefused (integerFrom variant (record { lo = low; hi = high }))) (now (words .entry)) ⌝ }
-    ensures { λ r. ⌜ now (words .exit) ≡ wordsOf (ofInteger (λ x. saidCast (recast to x)) saidRefused (integerFrom variant (record { lo = low; hi = high }))) (now (words .entry)) ⌝ }
+    ensures { λ r. ⌜ r ≡ numberOf (ofInteger (λ x. saidCast (recast to x)) saidRefused (integerOfWords variant (record { lo = low; hi = high }))) (now (words .entry)) ⌝ }
+    ensures { λ r. ⌜ now (words .exit) ≡ wordsOf (ofInteger (λ x. saidCast (recast to x)) saidRefused (integerOfWords variant (record { lo = low; hi = high }))) (now (words .entry)) ⌝ }
 {
     match recast::integer_from(variant, low, high) {
         AsInteger::Value(x) => return words::say_cast(words, recast::recast(to, x)),
@@ -554,8 +522,8 @@ pub extern "C" fn pot_integer_cast(
 // Casts an integer to an f32.
 #[no_mangle]
 pub extern "C" fn pot_integer_as_f32(variant: u64, low: u64, high: u64, words: &mut [u64]) -> u64
-    ensures { λ r. ⌜ r ≡ numberOf (ofInteger (λ x. saidAsF32 (asF32 x)) saidRefused (integerFrom variant (record { lo = low; hi = high }))) (now (words .entry)) ⌝ }
-    ensures { λ r. ⌜ now (words .exit) ≡ wordsOf (ofInteger (λ x. saidAsF32 (asF32 x)) saidRefused (integerFrom variant (record { lo = low; hi = high }))) (now (words .entry)) ⌝ }
+    ensures { λ r. ⌜ r ≡ numberOf (ofInteger (λ x. saidAsF32 (asF32 x)) saidRefused (integerOfWords variant (record { lo = low; hi = high }))) (now (words .entry)) ⌝ }
+    ensures { λ r. ⌜ now (words .exit) ≡ wordsOf (ofInteger (λ x. saidAsF32 (asF32 x)) saidRefused (integerOfWords variant (record { lo = low; hi = high }))) (now (words .entry)) ⌝ }
 {
     match recast::integer_from(variant, low, high) {
         AsInteger::Value(x) => return words::say_as_f32(words, cast::as_f32(x)),
@@ -566,8 +534,8 @@ pub extern "C" fn pot_integer_as_f32(variant: u64, low: u64, high: u64, words: &
 // Casts an integer to an f64.
 #[no_mangle]
 pub extern "C" fn pot_integer_as_f64(variant: u64, low: u64, high: u64, words: &mut [u64]) -> u64
-    ensures { λ r. ⌜ r ≡ numberOf (ofInteger (λ x. saidAsF64 (asF64 x)) saidRefused (integerFrom variant (record { lo = low; hi = high }))) (now (words .entry)) ⌝ }
-    ensures { λ r. ⌜ now (words .exit) ≡ wordsOf (ofInteger (λ x. saidAsF64 (asF64 x)) saidRefused (integerFrom variant (record { lo = low; hi = high }))) (now (words .entry)) ⌝ }
+    ensures { λ r. ⌜ r ≡ numberOf (ofInteger (λ x. saidAsF64 (asF64 x)) saidRefused (integerOfWords variant (record { lo = low; hi = high }))) (now (words .entry)) ⌝ }
+    ensures { λ r. ⌜ now (words .exit) ≡ wordsOf (ofInteger (λ x. saidAsF64 (asF64 x)) saidRefused (integerOfWords variant (record { lo = low; hi = high }))) (now (words .entry)) ⌝ }
 {
     match recast::integer_from(variant, low, high) {
         AsInteger::Value(x) => return words::say_as_f64(words, cast::as_f64(x)),

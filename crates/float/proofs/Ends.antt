@@ -1,11 +1,11 @@
 -- The ends of float's functions: at each return or call, what the code has in hand there and what it answers.
 use mathlib.Core.Path.{_≡_, sym, _∙_}
-use mathlib.Core.Bool.{Bool, true, false, not}
+use mathlib.Core.Bool.{Bool, true, false}
 use mathlib.Core.List.{List, _∷_}
 use Prim.Native.Nat.{ℕ, _+_, _-_, _≤_, _<_, _^_}
 use native.Mathlib.Omega.{arith}
 use borrow.Author.Needs.{needs}
-use borrow.Author.Tests.{le-leb, lt-leb, eq-eqb, ne-eqb, not-true, not-false}
+use borrow.Author.Tests.{le-leb, lt-leb, eq-eqb, ne-eqb}
 use lib.Ieee as Ieee
 use lib.ListN.{length}
 use Rattle.types.specs.Counters.{placeIn}
@@ -27,12 +27,14 @@ use Rattle.types.specs.declared.FloatAnswer.the-variants as FA
 use Rattle.header.specs.Header.{headerBytes}
 use Rattle.lent.specs.Lent.{writtenAnswer, writtenContent}
 use Rattle.little.specs.Le.{numberAt, toLE}
+use Rattle.little.proofs.Judged.{judged-laws}
+use Rattle.little.proofs.Zeros.{block-laws}
 use Rattle.binary.specs.declared.Narrowed16 as N16
 use Rattle.binary.specs.declared.Narrowed32 as N32
 use Rattle.binary.specs.Formats.{half, single, double}
 use Rattle.binary.specs.Conversions.{widened, narrowed, narrowedMeaning, answer16, answer32}
 use Rattle.binary.specs.Floats.{floatMeaning}
-use Rattle.binary.proofs.Laws.{exact16, lost16, exact32, lost32}
+use Rattle.binary.proofs.Laws.{kept16, lost16, kept32, lost32}
 use Rattle.float.specs.Floats.{floatOf, floatBody, floatFrom, floatRead}
 use Rattle.float.specs.Bytes.{floatBytes, f32Bytes, f64Bytes, valueBytes}
 use Rattle.float.specs.Values.{floatValue, atMost, isZero, asF32, ifEqual, equalNumbers, equalFloats}
@@ -93,11 +95,17 @@ module _ (count : ℕ) where
       at + count ≤ long → at + 8 ≤ long
   eight-there at long a p q h = let e = allowed-last count a p q in omega arith
 
+  -- bytes that run past the end are read in a block, where all of them are there
+  pub few-bytes : allowedFloat count ≡ true → count ≤ 16
+  few-bytes a = omega (arith, allowed-most count a)
+
 pub ruleset allowed-ends = (two-allowed, four-allowed, eight-allowed, others-not-allowed, needs)
 
 pub ruleset of-counts = (float-of-two, float-of-four, float-of-eight, two-bytes-fit, four-bytes-fit)
 
-pub ruleset count-ends = (of-counts, bits-of, bits-below, eight-there, allowed-last, allowed-most, needs)
+pub ruleset count-ends = (of-counts, bits-of, bits-below, eight-there, allowed-last, needs)
+
+pub ruleset block-ends = (block-laws, few-bytes, needs)
 
 -- a float read at a place within the source, whose kind has a code
 module _ (way : Way) (s : List ℕ) (at count : ℕ) (kind : Kind) (code : ℕ) (d : code ≡ kindCode kind) where
@@ -134,19 +142,6 @@ module _ (way : Way) (s : List ℕ) (at count : ℕ) (kind : Kind) (code : ℕ) 
         unfolding floatFrom floatBody
         read-filled bits value y b v = cc (eq-eqb code 3 k, lt-leb (at + count) (length s) (omega arith))
 
--- a callee's answer whose opposite was tested
-module _ (ok said : Bool) where
-  pub passed : not ok ≡ false → ok ≡ said → said ≡ true
-  passed f s = sym s ∙ not-false ok f
-
-  pub failed : not ok ≡ true → ok ≡ said → said ≡ false
-  failed f s = sym s ∙ not-true ok f
-
--- the bytes that the room was judged for are there
-pub bytes-there : (at count long : ℕ) → at ≤ long → count ≤ long - at → allowedFloat count ≡ true →
-    (allowedFloat count ≡ true) × (at + count ≤ long)
-bytes-there at count long h l a = (a, omega arith)
-
 -- a place past the end counts as the end
 pub read-within : (way : Way) (s : List ℕ) (place at : ℕ) (kind : Kind) (count : ℕ) (answer : FloatAnswer) →
     at ≡ placeIn (length s) place → answer ≡ floatFrom way s at kind count →
@@ -155,7 +150,7 @@ read-within way s place at kind count answer w e = cc
 
 pub ruleset judged-ends = (kind-refused, count-refused, read-whole, read-past-end, read-filled)
 
-pub ruleset read-ends = (judged-ends, passed, failed, bytes-there, read-within, needs)
+pub ruleset read-ends = (judged-ends, judged-laws, read-within, needs)
 
 -- bytes were written that are those of the value
 module _ (these bytes old : List ℕ) where
@@ -169,7 +164,7 @@ module _ (these bytes old : List ℕ) where
 module _ (bits : ℕ) (got : N16.Narrowed16) (g : got ≡ answer16 (narrowed single half bits)) where
   pub half-written : (q : ℕ) → got ≡ N16.the-variants.Pattern q → 0x61 ∷ toLE 2 q ≡ f32Bytes bits
   unfolding floatBytes headerBytes
-  half-written q h = f32-short bits q (exact16 (narrowed single half bits) q (sym g ∙ h))
+  half-written q h = f32-short bits q (kept16 (narrowed single half bits) q (sym g ∙ h))
 
   pub single-written : got ≡ N16.the-variants.None → 0x63 ∷ toLE 4 bits ≡ f32Bytes bits
   unfolding floatBytes headerBytes
@@ -178,7 +173,7 @@ module _ (bits : ℕ) (got : N16.Narrowed16) (g : got ≡ answer16 (narrowed sin
 -- those of a binary32 pattern of a binary64 one, or 8
 module _ (bits : ℕ) (got : N32.Narrowed32) (g : got ≡ answer32 (narrowed double single bits)) where
   pub narrower-written : (q : ℕ) → got ≡ N32.the-variants.Pattern q → f32Bytes q ≡ f64Bytes bits
-  narrower-written q h = f64-short bits q (exact32 (narrowed double single bits) q (sym g ∙ h))
+  narrower-written q h = f64-short bits q (kept32 (narrowed double single bits) q (sym g ∙ h))
 
   pub double-written : got ≡ N32.the-variants.None → 0x67 ∷ toLE 8 bits ≡ f64Bytes bits
   unfolding floatBytes headerBytes

@@ -9,9 +9,9 @@ use Rattle.types.specs.declared.AsF32.{AsF32}
 use Rattle.types.specs.declared.AsF32.the-variants as AsF32
 use Rattle.binary.specs.declared.Narrowed32 as N32
 use Rattle.binary.specs.Formats.{Layout, single, double, signWeight, Meaning, finite, infinite, nan, meaning}
-use Rattle.binary.specs.Conversions.{exact, narrowed, narrowedMeaning, answer32}
+use Rattle.binary.specs.Conversions.{kept, narrowed, narrowedMeaning, answer32}
 use Rattle.binary.specs.Floats.{floatMeaning, plain}
-use Rattle.binary.proofs.Laws.{exact32, lost32}
+use Rattle.binary.proofs.Laws.{kept32, lost32}
 use Rattle.binary.proofs.Narrowing.{narrowed-by}
 use Rattle.binary.proofs.Values.{toBits-means, narrowed-value}
 use Rattle.float.specs.Values.{ifEqual}
@@ -35,7 +35,7 @@ module _ (x : Float) (F : T (fits binary64 x)) where
   module _ (b : ℕ) (r : N32.Narrowed32) (e : b ≡ toBits binary64 x) (a : r ≡ answer32 (narrowed double single b)) where
     pub narrow-taken : (q : ℕ) (v : Float) → r ≡ N32.the-variants.Pattern q → v ≡ ofBits binary32 q → AsF32.Value v ≡ ifEqual x (narrowedMeaning single (floatMeaning x))
     narrow-taken q v h w =
-        let n : narrowed double single b ≡ exact q = exact32 (narrowed double single b) q (sym a ∙ h) in
+        let n : narrowed double single b ≡ kept q = kept32 (narrowed double single b) q (sym a ∙ h) in
         ap AsF32.Value (w ∙ narrowed-value b q (own b e) n ∙ ap (ofBits binary64) e ∙ ofBits-toBits binary64 x F)
         ∙ ap (ifEqual x) (sym n ∙ ap (narrowed double single) e ∙ narrowed-means)
 

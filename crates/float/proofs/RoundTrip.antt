@@ -95,21 +95,21 @@ abbrev pub valueOwn : Float → ℕ
 valueOwn (F.F32 x) = 4
 valueOwn (F.F64 x) = 8
 
-abbrev pub valueBits : Float → ℕ
-valueBits (F.F32 x) = toBits binary32 x
-valueBits (F.F64 x) = toBits binary64 x
+abbrev pub ownBits : Float → ℕ
+ownBits (F.F32 x) = toBits binary32 x
+ownBits (F.F64 x) = toBits binary64 x
 
 -- a float whose value its width holds, as every one is that the code can have
 abbrev pub Held : Float → Type 0
 Held (F.F32 x) = T (fits binary32 x)
 Held (F.F64 x) = T (fits binary64 x)
 
-pub stored-value : (v : Float) → Held v → Stored (valueOwn v) (valueBits v) (valueBytes v)
+pub stored-value : (v : Float) → Held v → Stored (valueOwn v) (ownBits v) (valueBytes v)
 unfolding valueBytes
 stored-value (F.F32 x) F = stored-single (toBits binary32 x) (toBits-lt binary32 x F)
 stored-value (F.F64 x) F = stored-double (toBits binary64 x) (toBits-lt binary64 x F)
 
-own-value : (v : Float) → Held v → floatValue (floatOf (valueOwn v) (valueBits v)) ≡ floatValue v
+own-value : (v : Float) → Held v → floatValue (floatOf (valueOwn v) (ownBits v)) ≡ floatValue v
 own-value (F.F32 x) F = value-four (toBits binary32 x) ∙ ofBits-toBits binary32 x F
 own-value (F.F64 x) F = value-eight (toBits binary64 x) ∙ ofBits-toBits binary64 x F
 

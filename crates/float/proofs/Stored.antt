@@ -8,13 +8,15 @@ use native.Mathlib.Omega.{arith}
 use lib.Dec.{lit<}
 use lib.Ieee.{binary32, binary64, ofBits}
 use Rattle.types.specs.Forms.{allowedFloat}
-use Rattle.binary.specs.Formats.{Layout, half, single, double, signWeight, Meaning, finite, infinite, nan, meaning, Number, SameValue}
-use Rattle.binary.specs.Conversions.{signed, infinity, Narrowed, exact, lost, widened, narrowed}
+use Rattle.binary.specs.Formats.{Layout, half, single, double, signWeight, Meaning, finite, infinite, nan, meaning}
+use Rattle.binary.specs.Formats.{NotNan, SameValue}
+use Rattle.binary.specs.Conversions.{withSign, infinity, Narrowed, kept, lost, widened, narrowed}
 use Rattle.binary.specs.Floats.{floatMeaning, plain}
 use Rattle.binary.proofs.Patterns.{one-pattern}
 use Rattle.binary.proofs.Widths.{half-single}
-use Rattle.binary.proofs.Laws.{narrowed-sound, narrowed-lost, narrowed-nan, narrowed-zero, narrowed-infinite, widened-lt, widened-keeps, widened-narrowed, widened-nan}
-use Rattle.binary.proofs.Values.{ofBits-means, narrowed-value}
+use Rattle.binary.proofs.Laws.{narrowed-sound, narrowed-lost, narrowed-nan, narrowed-zero, narrowed-infinite}
+use Rattle.binary.proofs.Laws.{widened-lt, widened-keeps, widened-narrowed}
+use Rattle.binary.proofs.Values.{ofBits-means, half-value, narrowed-value}
 use Rattle.float.specs.Floats.{floatOf, layoutAt}
 use Rattle.float.specs.Bytes.{floatBytes, f32Bytes, f64Bytes}
 use Rattle.float.specs.Values.{floatValue, floatMeans}
@@ -31,26 +33,18 @@ pub record Stored (own bits : ℕ) (bytes : List ℕ) : Type 0 where
   -- it is read as the same value
   pub value : floatValue (floatOf count stored) ≡ floatValue (floatOf own bits)
   -- what is stored has the same sign and magnitude, or is the same infinity
-  pub number : Number (meaning (layoutAt own) bits) → meaning (layoutAt count) stored ≡ meaning (layoutAt own) bits
+  pub number : NotNan (meaning (layoutAt own) bits) → meaning (layoutAt count) stored ≡ meaning (layoutAt own) bits
   -- "A NaN is written at its own width with its own bits."
   pub nan-kept : (s : Bool) (t : ℕ) → meaning (layoutAt own) bits ≡ nan s t → (count ≡ own) × (stored ≡ bits)
   -- no fewer bytes hold the value
-  pub fewest : (c q : ℕ) → Allowed c → q < 256 ^ c → Number (meaning (layoutAt own) bits) → meaning (layoutAt c) q ≡ meaning (layoutAt own) bits → count ≤ c
+  pub fewest : (c q : ℕ) → Allowed c → q < 256 ^ c → NotNan (meaning (layoutAt own) bits) → meaning (layoutAt c) q ≡ meaning (layoutAt own) bits → count ≤ c
 
 -- ---- what is read means what is stored
-
-widened-plain : (b : ℕ) → plain (meaning single (widened half single b)) ≡ plain (meaning half b)
-widened-plain b = go (meaning half b) refl
-  where
-    go : (m : Meaning) → meaning half b ≡ m → plain (meaning single (widened half single b)) ≡ plain (meaning half b)
-    go (finite s m) e = ap plain (widened-keeps half-single b (subst Number (sym e) tt))
-    go (infinite s) e = ap plain (widened-keeps half-single b (subst Number (sym e) tt))
-    go (nan s t) e = ap plain (widened-nan half single b s t (lit< tt) e) ∙ sym (ap plain e)
 
 -- the sign and the magnitude of the stored bits, the infinity, or the NaN
 pub float-means : (c b : ℕ) → Allowed c → floatMeans (floatOf c b) ≡ plain (meaning (layoutAt c) b)
 unfolding floatOf
-float-means c b (two e) = rw e (ofBits-means binary32 (widened half single b) ∙ widened-plain b)
+float-means c b (two e) = rw e (half-value b)
 float-means c b (four e) = rw e (ofBits-means binary32 b)
 float-means c b (eight e) = rw e (ofBits-means binary64 b)
 
@@ -77,7 +71,7 @@ least c (four e) = omega arith
 least c (eight e) = omega arith
 
 -- a pattern that is stored at its own width, where no narrower one holds it
-stored-own : (own b : ℕ) (bytes : List ℕ) → Allowed own → b < 256 ^ own → bytes ≡ floatBytes own b → ((c q : ℕ) → Allowed c → q < 256 ^ c → Number (meaning (layoutAt own) b) → meaning (layoutAt c) q ≡ meaning (layoutAt own) b → own ≤ c) → Stored own b bytes
+stored-own : (own b : ℕ) (bytes : List ℕ) → Allowed own → b < 256 ^ own → bytes ≡ floatBytes own b → ((c q : ℕ) → Allowed c → q < 256 ^ c → NotNan (meaning (layoutAt own) b) → meaning (layoutAt c) q ≡ meaning (layoutAt own) b → own ≤ c) → Stored own b bytes
 stored-own own b bytes a h e f = record {
   count = own;
   stored = b;
@@ -99,17 +93,17 @@ at-count c d q e h = rw e at h
 at-layout : (c d q : ℕ) (m : Meaning) → c ≡ d → meaning (layoutAt c) q ≡ m → meaning (layoutAt d) q ≡ m
 at-layout c d q m e h = subst (λ (n : ℕ). meaning (layoutAt n) q ≡ m) e h
 
-number-of : (m n : Meaning) → m ≡ n → Number n → Number m
-number-of m n e k = subst Number (sym e) k
+number-of : (m n : Meaning) → m ≡ n → NotNan n → NotNan m
+number-of m n e k = subst NotNan (sym e) k
 
 -- a NaN narrows to nothing
-nan-lost : (from to : Layout) (b q : ℕ) (s : Bool) (t : ℕ) → narrowed from to b ≡ exact q → meaning from b ≡ nan s t → ⊥
+nan-lost : (from to : Layout) (b q : ℕ) (s : Bool) (t : ℕ) → narrowed from to b ≡ kept q → meaning from b ≡ nan s t → ⊥
 nan-lost from to b q s t h e = let l : narrowed from to b ≡ lost = narrowed-nan from to b s t e in false≢true cc
 
 -- ---- a binary32 pattern
 
 module _ (b : ℕ) (B : b < 256 ^ 4) where
-  single-as-half : (q : ℕ) → narrowed single half b ≡ exact q → Stored 4 b (f32Bytes b)
+  single-as-half : (q : ℕ) → narrowed single half b ≡ kept q → Stored 4 b (f32Bytes b)
   single-as-half q h =
       let v = narrowed-sound single half b q h in
       record {
@@ -124,7 +118,7 @@ module _ (b : ℕ) (B : b < 256 ^ 4) where
         fewest = λ c p a r n e. least c a;
       }
 
-  single-fewest : narrowed single half b ≡ lost → (c q : ℕ) → Allowed c → q < 256 ^ c → Number (meaning single b) → meaning (layoutAt c) q ≡ meaning single b → 4 ≤ c
+  single-fewest : narrowed single half b ≡ lost → (c q : ℕ) → Allowed c → q < 256 ^ c → NotNan (meaning single b) → meaning (layoutAt c) q ≡ meaning single b → 4 ≤ c
   single-fewest h c q (two e) r n m = absurd (narrowed-lost single half b h q (at-count c 2 q e r, n, at-layout c 2 q (meaning single b) e m))
   single-fewest h c q (four e) r n m = omega arith
   single-fewest h c q (eight e) r n m = omega arith
@@ -133,7 +127,7 @@ module _ (b : ℕ) (B : b < 256 ^ 4) where
   single-as-single h = stored-own 4 b (f32Bytes b) (four refl) B (sym (f32-own b h)) (single-fewest h)
 
   single-by : (n : Narrowed) → narrowed single half b ≡ n → Stored 4 b (f32Bytes b)
-  single-by (exact q) h = single-as-half q h
+  single-by (kept q) h = single-as-half q h
   single-by lost h = single-as-single h
 
   pub stored-single : Stored 4 b (f32Bytes b)
@@ -142,7 +136,7 @@ module _ (b : ℕ) (B : b < 256 ^ 4) where
 -- ---- a binary64 pattern
 
 module _ (b : ℕ) (B : b < 256 ^ 8) where
-  module _ (q : ℕ) (h : narrowed double single b ≡ exact q) (S : Stored 4 q (f32Bytes q)) where
+  module _ (q : ℕ) (h : narrowed double single b ≡ kept q) (S : Stored 4 q (f32Bytes q)) where
     narrower : SameValue double single b q
     narrower = narrowed-sound double single b q h
 
@@ -159,10 +153,10 @@ module _ (b : ℕ) (B : b < 256 ^ 8) where
       fewest = λ c p a r n e. S .fewest c p a r (number-of (meaning single q) (meaning double b) (narrower .2) n) (e ∙ sym (narrower .2));
     }
 
-  double-fewest : narrowed double single b ≡ lost → (c q : ℕ) → Allowed c → q < 256 ^ c → Number (meaning double b) → meaning (layoutAt c) q ≡ meaning double b → 8 ≤ c
+  double-fewest : narrowed double single b ≡ lost → (c q : ℕ) → Allowed c → q < 256 ^ c → NotNan (meaning double b) → meaning (layoutAt c) q ≡ meaning double b → 8 ≤ c
   double-fewest h c q (two e) r n m =
       let m′ : meaning half q ≡ meaning double b = at-layout c 2 q (meaning double b) e m in
-      let k : Number (meaning half q) = number-of (meaning half q) (meaning double b) m′ n in
+      let k : NotNan (meaning half q) = number-of (meaning half q) (meaning double b) m′ n in
       absurd (narrowed-lost double single b h (widened half single q) (widened-lt half-single q k, n, widened-keeps half-single q k ∙ m′))
   double-fewest h c q (four e) r n m = absurd (narrowed-lost double single b h q (at-count c 4 q e r, n, at-layout c 4 q (meaning double b) e m))
   double-fewest h c q (eight e) r n m = omega arith
@@ -171,7 +165,7 @@ module _ (b : ℕ) (B : b < 256 ^ 8) where
   double-as-double h = stored-own 8 b (f64Bytes b) (eight refl) B (sym (f64-own b h)) (double-fewest h)
 
   double-by : (n : Narrowed) → narrowed double single b ≡ n → Stored 8 b (f64Bytes b)
-  double-by (exact q) h = double-as-single q h (stored-single q (narrowed-sound double single b q h .0))
+  double-by (kept q) h = double-as-single q h (stored-single q (narrowed-sound double single b q h .0))
   double-by lost h = double-as-double h
 
   pub stored-double : Stored 8 b (f64Bytes b)
@@ -189,9 +183,9 @@ level a b p q = omega arith
 
 -- equal numbers have equal bytes, whatever the widths that they come from
 pub one-form : (own bits own′ bits′ : ℕ) (bytes bytes′ : List ℕ) → Stored own bits bytes → Stored own′ bits′ bytes′
-    → Number (meaning (layoutAt own) bits) → meaning (layoutAt own) bits ≡ meaning (layoutAt own′) bits′ → bytes ≡ bytes′
+    → NotNan (meaning (layoutAt own) bits) → meaning (layoutAt own) bits ≡ meaning (layoutAt own′) bits′ → bytes ≡ bytes′
 one-form own bits own′ bits′ bytes bytes′ S S′ n e =
-    let n′ : Number (meaning (layoutAt own′) bits′) = number-of (meaning (layoutAt own′) bits′) (meaning (layoutAt own) bits) (sym e) n in
+    let n′ : NotNan (meaning (layoutAt own′) bits′) = number-of (meaning (layoutAt own′) bits′) (meaning (layoutAt own) bits) (sym e) n in
     let a = allowed-is (S .count) (S .its-count) in
     let a′ = allowed-is (S′ .count) (S′ .its-count) in
     let c : S .count ≡ S′ .count =
@@ -210,13 +204,13 @@ one-form own bits own′ bits′ bytes bytes′ S S′ n e =
 
 module _ (own bits : ℕ) (bytes : List ℕ) (S : Stored own bits bytes) where
   -- a number that binary16 has takes 2 bytes, its pattern there
-  pub takes-two : (q : ℕ) → narrowed (layoutAt own) half bits ≡ exact q → bytes ≡ floatBytes 2 q
+  pub takes-two : (q : ℕ) → narrowed (layoutAt own) half bits ≡ kept q → bytes ≡ floatBytes 2 q
   takes-two q h =
       let v = narrowed-sound (layoutAt own) half bits q h in
       one-form own bits 2 q bytes (floatBytes 2 q) S (stored-half q (v .0)) (v .1) (sym (v .2))
 
-  pub zero-two : (s : Bool) → meaning (layoutAt own) bits ≡ finite s 0 → bytes ≡ floatBytes 2 (signed half s 0)
-  zero-two s e = takes-two (signed half s 0) (narrowed-zero (layoutAt own) half bits s (lit< tt) e)
+  pub zero-two : (s : Bool) → meaning (layoutAt own) bits ≡ finite s 0 → bytes ≡ floatBytes 2 (withSign half s 0)
+  zero-two s e = takes-two (withSign half s 0) (narrowed-zero (layoutAt own) half bits s (lit< tt) e)
 
-  pub infinity-two : (s : Bool) → meaning (layoutAt own) bits ≡ infinite s → bytes ≡ floatBytes 2 (signed half s (infinity half))
-  infinity-two s e = takes-two (signed half s (infinity half)) (narrowed-infinite (layoutAt own) half bits s e)
+  pub infinity-two : (s : Bool) → meaning (layoutAt own) bits ≡ infinite s → bytes ≡ floatBytes 2 (withSign half s (infinity half))
+  infinity-two s e = takes-two (withSign half s (infinity half)) (narrowed-infinite (layoutAt own) half bits s e)

@@ -1,7 +1,7 @@
--- What the float writers write. Document 01, "Bytes of an atom": "`write_f32` uses 2 bytes exactly if the value is a binary16
--- value, else 4; `write_f64` uses 2, else 4, else 8. Both zeros and both infinities take 2 bytes. A NaN is written at its
--- own width with its own bits." `narrowed` answers the narrower pattern of the same sign and magnitude, if there is one, and
--- none of a NaN; that these are the fewest bytes is proved in `proofs/Stored.antt`.
+-- What the float writers write. Document 01, "Bytes of an atom": "`write_f32` uses 2 bytes exactly if the value is a
+-- binary16 value, else 4; `write_f64` uses 2, else 4, else 8. Both zeros and both infinities take 2 bytes. A NaN is
+-- written at its own width with its own bits." `narrowed` answers the narrower pattern of the same sign and magnitude,
+-- if there is one, and none of a NaN; that these are the fewest bytes is proved in `proofs/Stored.antt`.
 use Prim.Native.Nat.{ℕ, _-_}
 use mathlib.Core.List.{List, _++_}
 use lib.Ieee.{binary32, binary64, toBits}
@@ -11,7 +11,7 @@ use Rattle.types.specs.declared.Float.the-variants as F
 use Rattle.header.specs.Header.{headerBytes}
 use Rattle.little.specs.Le.{toLE}
 use Rattle.binary.specs.Formats.{half, single, double}
-use Rattle.binary.specs.Conversions.{Narrowed, exact, lost, narrowed}
+use Rattle.binary.specs.Conversions.{Narrowed, kept, lost, narrowed}
 
 -- a float of that many bytes that hold the bits: its header, whose argument is the count less 1, and then the bytes
 unfoldable pub floatBytes : ℕ → ℕ → List ℕ
@@ -19,7 +19,7 @@ floatBytes count bits = headerBytes K.Float (count - 1) ++ toLE count bits
 
 -- the narrower form if there is one, else the wider
 abbrev pub narrowest : Narrowed → (ℕ → List ℕ) → List ℕ → List ℕ
-narrowest (exact q) narrower wider = narrower q
+narrowest (kept q) narrower wider = narrower q
 narrowest lost narrower wider = wider
 
 -- "`write_f32` uses 2 bytes exactly if the value is a binary16 value, else 4": of a binary32 pattern

@@ -1,5 +1,6 @@
--- Floats read from bytes. Document 01, "Bytes of an atom": "Float: counts 2, 4, 8. Two bytes read as an F32", and "Refusals
--- by number". Beside a float's value stand its stored bits, since a NaN's sign and payload are in these alone.
+-- Floats read from bytes. Document 01, "Bytes of an atom": "Float: counts 2, 4, 8. Two bytes read as an F32", and
+-- "Refusals by number". Beside a float's value stand its stored bits, since a NaN's sign and payload are in these
+-- alone.
 use Prim.Native.Nat.{ℕ, _+_}
 use mathlib.Core.Bool.{Bool}
 use mathlib.Core.List.{List}
@@ -27,7 +28,8 @@ use Rattle.binary.specs.Conversions.{widened}
 abbrev pub layoutAt : ℕ → Layout
 layoutAt count = pick (eqb count 2) half (pick (eqb count 4) single double)
 
--- "Two bytes read as an F32", four too, and eight as an F64: the float of that many bytes that hold the bits, an allowed count
+-- "Two bytes read as an F32", four too, and eight as an F64: the float of that many bytes that hold the bits, an
+-- allowed count
 unfoldable pub floatOf : ℕ → ℕ → Float
 floatOf count bits =
     pick (eqb count 2) (F.F32 (ofBits binary32 (widened half single bits)))
@@ -44,13 +46,14 @@ floatBody way source at count =
     (λ p. FA.Read (record { 0 = p }) (floatOf count (numberAt count source at)) (numberAt count source at))
     (FA.Refused (record { 0 = length source }) R.Eof)
 
--- "7 UnexpectedKind(kind, wanted): number read asked of another kind (wanted: Float for float reads), before the count is
--- judged: unchanged"; "6 UnsupportedByteCount(kind, count): number width not allowed"; "A number read asked for directly
--- charges nothing; its refusal 6 leaves the place."
+-- "7 UnexpectedKind(kind, wanted): number read asked of another kind (wanted: Float for float reads), before the count
+-- is judged: unchanged"; "6 UnsupportedByteCount(kind, count): number width not allowed"; "A number read asked for
+-- directly charges nothing; its refusal 6 leaves the place."
 unfoldable pub floatFrom : Way → List ℕ → ℕ → Kind → ℕ → FloatAnswer
 floatFrom way source at kind count =
     pick (floatKind kind)
-    (pick (allowedFloat count) (floatBody way source at count) (FA.Refused (record { 0 = at }) (unsupported K.Float count)))
+    (pick (allowedFloat count) (floatBody way source at count)
+    (FA.Refused (record { 0 = at }) (unsupported K.Float count)))
     (FA.Refused (record { 0 = at }) (R.UnexpectedKind kind K.Float))
 
 -- a float read at any place

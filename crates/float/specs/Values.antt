@@ -1,5 +1,5 @@
--- What a float answers of itself. Document 01, "Casts": "A float is an F32 or an F64 and carries its value." Both widths are
--- read as one meaning: a sign and a magnitude in units of 2^-1074, an infinity, or the NaN.
+-- What a float answers of itself. Document 01, "Casts": "A float is an F32 or an F64 and carries its value." Both
+-- widths are read as one meaning: a sign and a magnitude in units of 2^-1074, an infinity, or the NaN.
 use Prim.Native.Nat.{ℕ, _-_, _^_}
 use mathlib.Core.Bool.{Bool, false, _&&_, _||_, Bool·beq}
 use lib.Dec.{leb, eqb}
@@ -10,7 +10,7 @@ use Rattle.types.specs.declared.Refusal.the-variants as R
 use Rattle.types.specs.declared.AsF32.{AsF32}
 use Rattle.types.specs.declared.AsF32.the-variants as AsF32
 use Rattle.binary.specs.Formats.{single, Meaning, finite, infinite, nan}
-use Rattle.binary.specs.Conversions.{Narrowed, exact, lost, narrowedMeaning}
+use Rattle.binary.specs.Conversions.{Narrowed, kept, lost, narrowedMeaning}
 use Rattle.binary.specs.Floats.{floatMeaning}
 
 -- the value that a float carries; `as_f64`, since every binary32 value is a binary64 value
@@ -39,7 +39,7 @@ isZero x = atMost (smallness x) (floatMeans x)
 
 -- a value that has an equal one in binary32, or the refusal
 abbrev pub ifEqual : Ieee.Float → Narrowed → AsF32
-ifEqual x (exact q) = AsF32.Value x
+ifEqual x (kept q) = AsF32.Value x
 ifEqual x lost = AsF32.Refused R.ImpreciseCastWouldLoseData
 
 -- "`as_f32` of an F64 needs an equal value."

@@ -81,7 +81,8 @@ pub fn filled_bits(source: &[u8], at: usize, count: u64) -> u64
     requires { ⌜ allowedFloat count ≡ true ⌝ }
     ensures { λ r. ⌜ (r ≡ numberAt count (now (source .entry)) at) × (r < 256 ^ count) ⌝ }
 {
-    little::filled(source, at, count as usize)
+    let block = little::filled(source, at);
+    stored_bits(&block, 0, count)
 }
 
 // Reads a float of that many bytes, at a place within the source.

@@ -39,7 +39,7 @@ clash : (e o : ℕ) → e < o → e ≡ o → ⊥
 clash e o h q = omega arith
 
 module _ (b small : ℕ) (some : 0 < small) where
-  from-small : (s : Bool) (m : ℕ) → m < 2 ^ (51 + small) → wholeFrom small (finite s m) ≡ Whole.Number 0
+  from-small : (s : Bool) (m : ℕ) → m < 2 ^ (51 + small) → wholeFrom small (finite s m) ≡ Whole.Found 0
   unfolding wholeFrom
   from-small s m h = rw (lt-ltb m (2 ^ (51 + small)) h)
 
@@ -47,13 +47,13 @@ module _ (b small : ℕ) (some : 0 < small) where
   unfolding wholeFrom
   from-large s m h = rw (le-ltb m (2 ^ (51 + small)) h)
 
-  pub small-number : exponent double b < small → small < 2047 → Whole.Number 0 ≡ wholeFrom small (meaning double b)
+  pub small-number : exponent double b < small → small < 2047 → Whole.Found 0 ≡ wholeFrom small (meaning double b)
   small-number h l = go (reading double b)
     where
       late : (e s : ℕ) → e < s → s < 2047 → e ≡ 2047 → ⊥
       late e s h l q = omega arith
 
-      go : Reading double b → Whole.Number 0 ≡ wholeFrom small (meaning double b)
+      go : Reading double b → Whole.Found 0 ≡ wholeFrom small (meaning double b)
       go (is-finite e m) =
           sym (ap (wholeFrom small) m
           ∙ from-small (negative double b) (magnitude double (exponent double b) (fraction double b))
@@ -85,7 +85,7 @@ module _ (b small : ℕ) (some : 0 < small) where
 
 -- ---- the integer
 
-lost-number : (n : ℕ) → Whole.Lost ≡ Whole.Number n → ⊥
+lost-number : (n : ℕ) → Whole.Lost ≡ Whole.Found n → ⊥
 lost-number n h = false≢true cc
 
 -- a whole number, clamped and handed to `From`
@@ -96,13 +96,13 @@ abbrev refused : AsInteger
 refused = AsInteger.Refused R.ImpreciseCastWouldLoseData
 
 abbrev wholeIf : Bool → Bool → ℕ → Whole
-wholeIf small whole m = pick small (Whole.Number 0) (pick whole (Whole.Number (least (m / one) most)) Whole.Lost)
+wholeIf small whole m = pick small (Whole.Found 0) (pick whole (Whole.Found (least (m / one) most)) Whole.Lost)
 
 module _ (k small : ℕ) (w : Width) (bound : 51 + small ≡ 1074 - k) (room : 2 ^ hbits w ≤ most) where
   none : (m : ℕ) → m < 2 ^ (51 + small) → m / one ≡ 0
   none m h = div-eq-of-lt (lt-of-lt-of-le h (pow-mono {i = 51 + small} {j = 1074} (omega arith)))
 
-  taken : (s : Bool) (m n : ℕ) (a b : Bool) → ltb m (2 ^ (51 + small)) ≡ a → wholeIf a b m ≡ Whole.Number n →
+  taken : (s : Bool) (m n : ℕ) (a b : Bool) → ltb m (2 ^ (51 + small)) ≡ a → wholeIf a b m ≡ Whole.Found n →
       handed w s n ≡ pick (pick a true b) (handed w s (m / one)) refused
   taken s m n true b p h = cc (none m (ltb-true m (2 ^ (51 + small)) p))
   taken s m n false true p h = cc (clamped-least (hbits w) (m / one) most s room)
@@ -121,7 +121,7 @@ module _ (k small : ℕ) (w : Width) (bound : 51 + small ≡ 1074 - k) (room : 2
   finite-is s m = rw bound
 
   meant-number : (s : Bool) (m n : ℕ) →
-      wholeFrom small (finite s m) ≡ Whole.Number n → handed w s n ≡ integral k w (finite s m)
+      wholeFrom small (finite s m) ≡ Whole.Found n → handed w s n ≡ integral k w (finite s m)
   unfolding wholeFrom wholeOf
   meant-number s m n h = taken s m n (ltb m (2 ^ (51 + small))) (eqb (m % one) 0) refl h ∙ finite-is s m
 
@@ -131,11 +131,11 @@ module _ (k small : ℕ) (w : Width) (bound : 51 + small ≡ 1074 - k) (room : 2
   meant-lost (infinite s) h = refl
   meant-lost (nan s t) h = refl
 
-  no-infinite : (s : Bool) (n : ℕ) → wholeFrom small (infinite s) ≡ Whole.Number n → ⊥
+  no-infinite : (s : Bool) (n : ℕ) → wholeFrom small (infinite s) ≡ Whole.Found n → ⊥
   unfolding wholeFrom
   no-infinite s n h = lost-number n h
 
-  no-nan : (s : Bool) (t n : ℕ) → wholeFrom small (nan s t) ≡ Whole.Number n → ⊥
+  no-nan : (s : Bool) (t n : ℕ) → wholeFrom small (nan s t) ≡ Whole.Found n → ⊥
   unfolding wholeFrom
   no-nan s t n h = lost-number n h
 
@@ -154,14 +154,14 @@ module _ (k small : ℕ) (w : Width) (bound : 51 + small ≡ 1074 - k) (room : 2
         ∙ ap (integral k w) (toBits-means binary64 x f)
 
     -- it has a whole number, which is clamped and handed to `From`
-    pub integer-taken : (n : ℕ) (z : ℤ) (i : Integer) → r ≡ Whole.Number n → SFits w z →
+    pub integer-taken : (n : ℕ) (z : ℤ) (i : Integer) → r ≡ Whole.Found n → SFits w z →
         z ≡ clamped (hbits w) (negative double b) n → i ≡ from signed w (toZ w (ofZ w z)) →
         AsInteger.Value i ≡ integral k w (floatMeaning x)
     integer-taken n z i h s q o =
         ap AsInteger.Value o ∙ ap (λ (y : ℤ). AsInteger.Value (from signed w y)) (toZ-ofZ w z s ∙ q)
         ∙ go (reading double b) ∙ means
       where
-        found : wholeFrom small (meaning double b) ≡ Whole.Number n
+        found : wholeFrom small (meaning double b) ≡ Whole.Found n
         found = sym a ∙ h
 
         go : Reading double b → handed w (negative double b) n ≡ integral k w (meaning double b)

@@ -20,9 +20,9 @@ use Rattle.float_cast.proofs.Clamps.{least-left, least-right}
 
 -- ---- by the remainder and the quotient
 
-pub whole-number : (m n : ℕ) → m % one ≡ 0 → m / one ≡ n → wholeOf m ≡ Whole.Number (least n most)
+pub whole-number : (m n : ℕ) → m % one ≡ 0 → m / one ≡ n → wholeOf m ≡ Whole.Found (least n most)
 unfolding wholeOf
-whole-number m n z q = rw (eq-eqb (m % one) 0 z) (ap (λ (x : ℕ). Whole.Number (least x most)) q)
+whole-number m n z q = rw (eq-eqb (m % one) 0 z) (ap (λ (x : ℕ). Whole.Found (least x most)) q)
 
 pub whole-lost : (m : ℕ) → (m % one ≡ 0 → ⊥) → wholeOf m ≡ Whole.Lost
 unfolding wholeOf
@@ -113,12 +113,12 @@ module _ (e t : ℕ) (some : 0 < e) (T : t < 2 ^ 52) where
     back = shift-back (2 ^ 52 + t) (1075 - e) 64 (omega arith)
 
     pub digits-whole : (2 ^ 52 + t) / 2 ^ (1075 - e) * 2 ^ (1075 - e) % 2 ^ 64 ≡ 2 ^ 52 + t →
-        Whole.Number ((2 ^ 52 + t) / 2 ^ (1075 - e)) ≡ wholeOf (magnitude double e t)
+        Whole.Found ((2 ^ 52 + t) / 2 ^ (1075 - e)) ≡ wholeOf (magnitude double e t)
     digits-whole s =
         let d = 1075 - e in
         let w : (2 ^ 52 + t) / 2 ^ d * 2 ^ d ≡ 2 ^ 52 + t = sym back ∙ s in
         let small : (2 ^ 52 + t) / 2 ^ d < most = small-quotient ((2 ^ 52 + t) / 2 ^ d) (shr-le (2 ^ 52 + t) d) in
-        ap Whole.Number (least-left ((2 ^ 52 + t) / 2 ^ d) most small)
+        ap Whole.Found (least-left ((2 ^ 52 + t) / 2 ^ d) most small)
         ∙ sym (ap wholeOf (normal e t some)
         ∙ whole-number ((2 ^ 52 + t) * 2 ^ (e - 1)) ((2 ^ 52 + t) / 2 ^ d)
         (low-rest (2 ^ 52 + t) (e - 1) d 1074 parts ∙ ap (λ (n : ℕ). n * 2 ^ (e - 1)) (rest-none (2 ^ 52 + t) (2 ^ d) w)
@@ -142,25 +142,25 @@ module _ (e t : ℕ) (some : 0 < e) (T : t < 2 ^ 52) where
     raised : e - 1 ≡ e - 1075 + 1074
     raised = omega arith
 
-    from-one : wholeOf (magnitude double e t) ≡ Whole.Number (least ((2 ^ 52 + t) * 2 ^ (e - 1075)) most)
+    from-one : wholeOf (magnitude double e t) ≡ Whole.Found (least ((2 ^ 52 + t) * 2 ^ (e - 1075)) most)
     from-one =
         ap wholeOf (normal e t some)
         ∙ whole-number ((2 ^ 52 + t) * 2 ^ (e - 1)) ((2 ^ 52 + t) * 2 ^ (e - 1075))
         (high-rest (2 ^ 52 + t) (e - 1) (e - 1075) 1074 raised)
         (high-quotient (2 ^ 52 + t) (e - 1) (e - 1075) 1074 raised)
 
-    pub moved-up : e < 1086 → Whole.Number ((2 ^ 52 + t) * 2 ^ (e - 1075) % 2 ^ 64) ≡ wholeOf (magnitude double e t)
+    pub moved-up : e < 1086 → Whole.Found ((2 ^ 52 + t) * 2 ^ (e - 1075) % 2 ^ 64) ≡ wholeOf (magnitude double e t)
     moved-up l =
-        ap Whole.Number (shl-exact 53 (e - 1075) 64 S-lt (omega arith)
+        ap Whole.Found (shl-exact 53 (e - 1075) 64 S-lt (omega arith)
         ∙ least-left ((2 ^ 52 + t) * 2 ^ (e - 1075)) most (below-one (2 ^ 52 + t) (e - 1075) 63 S-lt (omega arith)))
         ∙ sym from-one
 
-    pub too-large : 1086 ≤ e → Whole.Number most ≡ wholeOf (magnitude double e t)
+    pub too-large : 1086 ≤ e → Whole.Found most ≡ wholeOf (magnitude double e t)
     too-large l =
         let far : 2 ^ 63 ≤ (2 ^ 52 + t) * 2 ^ (e - 1075) =
         le-trans (pow-mono {i = 63} {j = 52 + (e - 1075)} (omega arith))
         (le-trans (le-of-eq (pow-add 2 52 (e - 1075))) (mul-le-mul-right (2 ^ (e - 1075)) (omega arith))) in
-        ap Whole.Number (least-right ((2 ^ 52 + t) * 2 ^ (e - 1075)) most far) ∙ sym from-one
+        ap Whole.Found (least-right ((2 ^ 52 + t) * 2 ^ (e - 1075)) most far) ∙ sym from-one
 
 pub ruleset whole-ends = (under-one, digits-whole, digits-lost, moved-up, too-large, needs)
 

@@ -1,5 +1,6 @@
--- A float as an integer. Document 01, "Casts": "`as_integer` takes whole values, and magnitudes under those bounds as 0, and
--- clamps to i32 for F32, i64 for F64; the answer is `From` of that i32 or i64. NaN and infinities are refused with 8."
+-- A float as an integer. Document 01, "Casts": "`as_integer` takes whole values, and magnitudes under those bounds as
+-- 0, and clamps to i32 for F32, i64 for F64; the answer is `From` of that i32 or i64. NaN and infinities are refused
+-- with 8."
 use Prim.Native.Nat.{ℕ, _-_, _/_, _%_, _^_}
 use mathlib.Core.Bool.{Bool, true, false}
 use lib.Dec.{ltb, eqb}
@@ -34,7 +35,8 @@ clamped h true n = negℤ (pos (least n (2 ^ h)))
 
 unfoldable pub integral : ℕ → Width → Meaning → AsInteger
 integral k w (finite s m) =
-    pick (takes k m) (AsInteger.Value (from signed w (clamped (hbits w) s (m / one)))) (AsInteger.Refused R.ImpreciseCastWouldLoseData)
+    pick (takes k m) (AsInteger.Value (from signed w (clamped (hbits w) s (m / one))))
+    (AsInteger.Refused R.ImpreciseCastWouldLoseData)
 integral k w (infinite s) = AsInteger.Refused R.ImpreciseCastWouldLoseData
 integral k w (nan s t) = AsInteger.Refused R.ImpreciseCastWouldLoseData
 

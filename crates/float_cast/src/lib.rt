@@ -13,7 +13,7 @@ use types::Refusal;
 
 // A whole number, at most 2^63; or nothing, where a fraction would be lost.
 pub enum Whole {
-    Number(u64),
+    Found(u64),
     Lost,
 }
 
@@ -36,14 +36,14 @@ fn whole_of(exponent: u64, fraction: u64) -> Whole
         let down = 1075 - exponent;
         let kept = significand >> down;
         if kept << down == significand {
-            return Whole::Number(kept);
+            return Whole::Found(kept);
         }
         return Whole::Lost;
     }
     if exponent < 1086 {
-        return Whole::Number(significand << (exponent - 1075));
+        return Whole::Found(significand << (exponent - 1075));
     }
-    Whole::Number(0x8000_0000_0000_0000)
+    Whole::Found(0x8000_0000_0000_0000)
 }
 
 // The whole number of a binary64 pattern; 0 where its exponent's field is below `small`.
@@ -54,7 +54,7 @@ fn whole_from(bits: u64, small: u64) -> Whole
     let exponent = bits % 0x8000_0000_0000_0000 / 0x10_0000_0000_0000;
     let fraction = bits % 0x10_0000_0000_0000;
     if exponent < small {
-        return Whole::Number(0);
+        return Whole::Found(0);
     }
     if exponent == 2047 {
         return Whole::Lost;
@@ -94,7 +94,7 @@ fn to_i32(value: f64) -> AsInteger
 {
     let bits = binary::f64_pattern(value);
     match whole_from(bits, 1000) {
-        Whole::Number(number) => {
+        Whole::Found(number) => {
             let negative = 0x8000_0000_0000_0000 <= bits;
             return AsInteger::Value(cast::from_i32(clamp_i32(negative, number)));
         }
@@ -108,7 +108,7 @@ fn to_i64(value: f64) -> AsInteger
 {
     let bits = binary::f64_pattern(value);
     match whole_from(bits, 971) {
-        Whole::Number(number) => {
+        Whole::Found(number) => {
             let negative = 0x8000_0000_0000_0000 <= bits;
             return AsInteger::Value(cast::from_i64(clamp_i64(negative, number)));
         }

@@ -10,12 +10,8 @@ use borrow.Author.Needs.{needs}
 use borrow.Author.Tests.{le-leb, lt-leb, eq-eqb, ne-eqb}
 use lib.Bits.{bitAnd}
 use lib.Dec.{lit<}
-use lib.ListN.{length, drop, getD, drop-of-length-le, List·getD-eq-default}
+use lib.ListN.{length, drop, getD, drop-of-length-le}
 use lib.Seq.{drop-cons, getD-drop}
-use borrow.Rule.Slice.Know.{Fit}
-use borrow.Table.Referent.{fInt}
-use mir.Syntax.{w8, w32}
-use mir.Val.{Fits}
 use Rattle.types.specs.Counters.{placeIn}
 use Rattle.types.specs.Kinds.{kindFrom, kindKnown}
 use Rattle.types.specs.Ways.{exact}
@@ -56,23 +52,7 @@ module _ (length at : ℕ) where
   pub source-end : at ≤ length → length - at ≤ 9 → LaterEnd length
   source-end m h = (m, omega arith, omega arith, λ e. refl)
 
--- a byte at a place and a distance from it, and past the end
-module _ (s : List ℕ) (at i : ℕ) where
-  module _ (bytes : Fit (fInt w8) 0 s) where
-    pub byte-fits : Fits w32 (getD s (at + i) 0)
-    byte-fits = omega (arith, bytes (at + i))
-
-    pub byte-low : getD s (at + i) 0 < 256
-    byte-low = omega (arith, bytes (at + i))
-
-  pub byte-there : getD s (at + i) 0 ≡ getD (drop at s) i 0
-  byte-there = sym (getD-drop at s i 0)
-
-  pub byte-past : length s ≤ at + i → 0 ≡ getD (drop at s) i 0
-  byte-past h = sym (getD-drop at s i 0 ∙ List·getD-eq-default s 0 {n = at + i} h)
-
-pub ruleset part-ends =
-    (kind-known, kind-refused, nine-on, source-end, byte-fits, byte-low, byte-there, byte-past, needs)
+pub ruleset part-ends = (kind-known, kind-refused, nine-on, source-end, needs)
 
 -- a header at a place
 module _ (way : Way) (s : List ℕ) (place at : ℕ) (w : at ≡ placeIn (length s) place) where
@@ -144,11 +124,11 @@ pub ruleset judge-ends = (word-taken, word-refused, needs)
 -- a signature at a place
 module _ (way : Way) (s : List ℕ) (place at : ℕ) (w : at ≡ placeIn (length s) place) (m : at ≤ length s) where
   -- its four bytes are there: their word is judged
-  module _ (first second third fourth : ℕ) (a : first ≡ getD (drop at s) 0 0) (b : second ≡ getD (drop at s) 1 0)
-      (c : third ≡ getD (drop at s) 2 0) (d : fourth ≡ getD (drop at s) 3 0) (r : VersionAnswer) where
+  module _ (first second third fourth : ℕ) (a : first ≡ getD s (at + 0) 0) (b : second ≡ getD s (at + 1) 0)
+      (c : third ≡ getD s (at + 2) 0) (d : fourth ≡ getD s (at + 3) 0) (r : VersionAnswer) where
     word-of : first * 0x1000000 + second * 0x10000 + third * 0x100 + fourth ≡ bigEndian (drop at s)
     unfolding bigEndian
-    word-of = rw (a, b, c, d) refl
+    word-of = cc (a, b, c, d, getD-drop at s 0 0, getD-drop at s 1 0, getD-drop at s 2 0, getD-drop at s 3 0)
 
     pub version-whole : 4 ≤ length s - at →
         r ≡ judged (first * 0x1000000 + second * 0x10000 + third * 0x100 + fourth) (record { 0 = at + 4 }) →

@@ -10,6 +10,7 @@ use lib.ListN.{length, drop, set, getD, length-drop}
 use lib.Seq.{getD-drop, drop-drop}
 use borrow.Author.Needs.{needs}
 use borrow.Author.Tests.{lt-ltb, le-ltb}
+use Rattle.lent.specs.Lent.{copiedOver}
 use Rattle.lent.proofs.Ends.{Copying, copy-begins, copy-room, copy-turn, copy-ends}
 use Rattle.header.specs.Header.{laterBytes}
 
@@ -137,14 +138,22 @@ module _ (old : List ℕ) (rest : ℕ) (new : List ℕ) (off arg : ℕ) (i : Wri
       copied = stored (arg % 128 + 128) _ (first rest off arg (i .left) h);
     }
 
+  -- the last, and no more than nine of them
+  pub write-few : off + 1 ≤ 9
+  write-few = let f = i .left .few in omega arith
+
   module _ (h : arg < 128) where
     pub last-room : off < length new
     last-room = inside arg [] (lone rest off arg (i .left) h)
 
-    pub write-ends : set new off arg ≡ laterBytes 9 rest ++ drop (length (laterBytes 9 rest)) old
+    pub write-count : off + 1 ≡ length (laterBytes 9 rest)
+    write-count = whole rest off arg (i .left) h
+
+    pub write-ends : set new off arg ≡ copiedOver (laterBytes 9 rest) old
     write-ends =
         let w = whole rest off arg (i .left) h in
         let c = stored arg [] (lone rest off arg (i .left) h) in
         copy-ends old (laterBytes 9 rest) (set new off arg) (off + 1) c (omega arith)
 
-pub ruleset write-laws = (write-begins, turn-room, write-turn, last-room, write-ends, needs)
+pub ruleset write-laws =
+    (write-begins, turn-room, write-turn, last-room, write-few, write-count, write-ends, needs)

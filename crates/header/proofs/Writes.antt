@@ -1,21 +1,27 @@
 -- The ends of the writers of a header and of a signature.
-use mathlib.Core.Path.{_≡_, refl, _∙_, ap}
+use mathlib.Core.Path.{_≡_, refl, _∙_, sym, ap}
+use mathlib.Core.Bool.{Bool, true, false}
 use mathlib.Core.List.{List, [], _∷_, _++_}
 use Prim.Native.Nat.{ℕ, _+_, _-_, _*_, _/_, _%_, _^_, _≤_, _<_}
 use native.Mathlib.Omega.{arith}
 use borrow.Author.Needs.{needs}
+use borrow.Author.Tests.{lt-ltb, ltb-true, ltb-false}
 use lib.Dec.{T, ltb, ltb→lt}
 use lib.ListN.{length, take, drop, set, length-set}
 use lib.Seq.{sets-eq}
 use Rattle.types.specs.Kinds.{kindCode}
+use Rattle.types.specs.Refusals.{noRoom}
 use Rattle.types.specs.declared.Kind.{Kind}
+use Rattle.types.specs.declared.Refusal.{Refusal}
 use Rattle.types.specs.declared.Written.{Written}
-use Rattle.lent.specs.Lent.{writtenAnswer, writtenContent}
+use Rattle.types.specs.declared.Written.the-variants as W
+use Rattle.lent.specs.Lent.{writtenAnswer, writtenContent, copiedOver}
 use Rattle.lent.proofs.Stores.{part-length, headed}
 use Rattle.lent.proofs.Ends.{short-answer, short-content, room-answer, room-content}
 use Rattle.header.specs.Header.{headerBytes, laterBytes}
 use Rattle.header.specs.Signature.{signatureBytes}
 use Rattle.header.proofs.Answers.{pot, bytes-one, bytes-more}
+use Rattle.header.proofs.Fewest.{few}
 
 -- how many bytes a header takes: one, or one more than its later part
 module _ (kind : Kind) (arg : ℕ) where
@@ -48,40 +54,77 @@ module _ (kind : Kind) (arg code : ℕ) (old : List ℕ) (h : arg < 16) (c : cod
 pub rest-low : (arg : ℕ) → arg < 2 ^ 64 → arg / 16 < 128 ^ 9
 rest-low arg h = omega arith
 
--- it has no room, and the buffer is as it was
-module _ (kind : Kind) (arg : ℕ) (old : List ℕ) (h : 16 ≤ arg) where
-  pub long-kept : length old < length (laterBytes 9 (arg / 16)) + 1 → old ≡ writtenContent (headerBytes kind arg) old
-  long-kept s = short-content (headerBytes kind arg) old _ s (length-more kind arg _ h refl)
+-- it has room, or not: ten bytes are room for any, and else its later part is counted
+module _ (rest room : ℕ) where
+  pub ten-room : rest < 128 ^ 9 → 10 ≤ room → true ≡ ltb (length (laterBytes 9 rest)) room
+  ten-room low h = let f = few 8 9 rest low in sym (lt-ltb (length (laterBytes 9 rest)) room (omega arith))
 
--- it has room, and its first byte is stored
-module _ (arg code : ℕ) (old : List ℕ) where
-  abbrev fronted : List ℕ
-  fronted = set old 0 (code * 32 + 16 + arg % 16)
+  pub counted-room : (later : ℕ) → later ≡ length (laterBytes 9 rest) →
+      ltb later room ≡ ltb (length (laterBytes 9 rest)) room
+  counted-room later e = ap (λ (n : ℕ). ltb n room) e
 
-  -- the buffer after it has room for the later part
-  pub later-room : (later : ℕ) → later ≡ length (laterBytes 9 (arg / 16)) → later + 1 ≤ length old →
-      length (laterBytes 9 (arg / 16)) ≤ length (take (length fronted - 1) (drop 1 fronted))
-  later-room later l room = rw (part-length fronted 1, length-set old 0 (code * 32 + 16 + arg % 16)) (omega arith)
+pub ruleset room-ends = (ten-room, counted-room, needs)
 
-  -- where it is written
-  pub long-content : (kind : Kind) (new : List ℕ) → 16 ≤ arg → length (laterBytes 9 (arg / 16)) + 1 ≤ length old →
-      code ≡ kindCode kind →
-      new ≡ laterBytes 9 (arg / 16)
-      ++ drop (length (laterBytes 9 (arg / 16))) (take (length fronted - 1) (drop 1 fronted)) →
-      take 1 fronted ++ (new ++ drop (length fronted - 1) (drop 1 fronted)) ≡ writtenContent (headerBytes kind arg) old
-  long-content kind new h room c e =
-      let head : List ℕ = (code * 32 + 16 + arg % 16) ∷ [] in
-      let bytes : head ++ laterBytes 9 (arg / 16) ≡ headerBytes kind arg = rw (bytes-more kind arg h, c) refl in
-      let n = ap length bytes in
-      let front = sets-eq head old 0 (omega arith) in
-      let all = headed head (laterBytes 9 (arg / 16)) old fronted new (omega arith) front e in
-      room-content (headerBytes kind arg) old _ (omega arith) (rw (← bytes) all)
+module _ (arg : ℕ) (old : List ℕ) (fits : Bool) (f : fits ≡ ltb (length (laterBytes 9 (arg / 16))) (length old)) where
+  -- it has none, and the buffer is as it was
+  module _ (no : fits ≡ false) (kind : Kind) (h : 16 ≤ arg) where
+    short : length old < length (laterBytes 9 (arg / 16)) + 1
+    short = let l = ltb-false (length (laterBytes 9 (arg / 16))) (length old) (sym f ∙ no) in omega arith
+
+    pub long-refused : (later : ℕ) (why : Refusal) → later ≡ length (laterBytes 9 (arg / 16)) →
+        why ≡ noRoom (later + 1) → W.Refused why ≡ writtenAnswer (headerBytes kind arg) old
+    long-refused later why l e =
+        let s = short in
+        short-answer (headerBytes kind arg) old (later + 1) (omega arith) (length-more kind arg later h l) why e
+
+    pub long-kept : old ≡ writtenContent (headerBytes kind arg) old
+    long-kept = short-content (headerBytes kind arg) old _ short (length-more kind arg _ h refl)
+
+  -- it has room, where another writer wrote it
+  module _ (yes : fits ≡ true) where
+    pub long-room : length (laterBytes 9 (arg / 16)) < length old
+    long-room = ltb-true (length (laterBytes 9 (arg / 16))) (length old) (sym f ∙ yes)
+
+    module _ (kind : Kind) (h : 16 ≤ arg) where
+      enough : length (headerBytes kind arg) ≤ length old
+      enough = let r = long-room in rw (bytes-more kind arg h) (omega arith)
+
+      pub long-answer : (count : ℕ) → count ≡ length (laterBytes 9 (arg / 16)) + 1 →
+          W.Count count ≡ writtenAnswer (headerBytes kind arg) old
+      long-answer count e =
+          let n = e ∙ length-more kind arg (length (laterBytes 9 (arg / 16))) h refl in
+          let r = enough in
+          room-answer (headerBytes kind arg) old count n (omega arith)
+
+      pub long-content : (code : ℕ) (new : List ℕ) → code ≡ kindCode kind →
+          new ≡ copiedOver ((code * 32 + 16 + arg % 16) ∷ laterBytes 9 (arg / 16)) old →
+          new ≡ writtenContent (headerBytes kind arg) old
+      long-content code new c e = room-content (headerBytes kind arg) old new enough (rw (bytes-more kind arg h, ← c) e)
+
+pub ruleset atom-header-ends =
+    (one-answer, one-content, rest-low, long-room, long-refused, long-kept, long-answer, long-content, needs)
+
+-- its first byte, and after that its later part
+module _ (rest first : ℕ) (old : List ℕ) (room : length (laterBytes 9 rest) < length old) where
+  pub after-first : 1 ≤ length (set old 0 first)
+  after-first = simp length-set (omega arith)
+
+  pub later-room : length (laterBytes 9 rest) ≤ length (take (length (set old 0 first) - 1) (drop 1 (set old 0 first)))
+  later-room = rw (part-length (set old 0 first) 1, length-set old 0 first) (omega arith)
+
+  pub both-written : (new : List ℕ) →
+      new ≡ copiedOver (laterBytes 9 rest) (take (length (set old 0 first) - 1) (drop 1 (set old 0 first))) →
+      take 1 (set old 0 first) ++ (new ++ drop (length (set old 0 first) - 1) (drop 1 (set old 0 first)))
+      ≡ copiedOver (first ∷ laterBytes 9 rest) old
+  unfolding copiedOver
+  both-written new e =
+      headed (first ∷ []) (laterBytes 9 rest) old (set old 0 first) new (omega arith)
+      (sets-eq (first ∷ []) old 0 (omega arith)) e
 
 pub same-size : (old new : List ℕ) (first : ℕ) → length new ≡ length (set old 0 first) → length new ≡ length old
 same-size old new first e = e ∙ length-set old 0 first
 
-pub ruleset atom-header-ends =
-    (one-answer, one-content, rest-low, later-room, same-size, length-more, short-answer, room-answer, needs)
+pub ruleset long-ends = (after-first, later-room, both-written, same-size, needs)
 
 -- a signature
 module _ (version : ℕ) (old : List ℕ) where
@@ -95,6 +138,7 @@ module _ (version : ℕ) (old : List ℕ) where
 
     pub signature-content : version < 256 →
         set (set (set (set old 0 0x50) 1 0x6F) 2 0x74) 3 version ≡ writtenContent (signatureBytes version) old
+    unfolding copiedOver
     signature-content h =
         let bytes = pot version h in
         let front = sets-eq (0x50 ∷ 0x6F ∷ 0x74 ∷ version ∷ []) old 0 room in

@@ -1,5 +1,5 @@
--- The atom header, read and written. Document 01, "Bytes of an atom": "Header, first byte: kind in the top 3 bits, 0x10 if
--- more bytes follow, low 4 bits of the argument."
+-- The atom header, read and written. Document 01, "Bytes of an atom": "Header, first byte: kind in the top 3 bits, 0x10
+-- if more bytes follow, low 4 bits of the argument."
 use Prim.Native.Nat.{ℕ, zero, suc, _+_, _*_, _/_, _%_, _^_}
 use mathlib.Core.Bool.{Bool}
 use mathlib.Core.List.{List, [], _∷_}
@@ -59,7 +59,8 @@ argumentFrom low later = (low + 16 * later) % 2 ^ 64
 -- the argument
 unfoldable pub headerArgument : List ℕ → ℕ
 headerArgument bytes =
-    argumentFrom (firstByte bytes % 16) (pick (moreFollow (firstByte bytes)) (laterValue mostLater (afterFirst bytes)) 0)
+    argumentFrom (firstByte bytes % 16)
+    (pick (moreFollow (firstByte bytes)) (laterValue mostLater (afterFirst bytes)) 0)
 
 -- how many bytes the header takes
 unfoldable pub headerLength : List ℕ → ℕ

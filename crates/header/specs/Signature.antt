@@ -1,5 +1,5 @@
--- The signature of a file. Document 01, "Bytes of an atom": "Signature: four bytes, big endian. It is taken if every bit of
--- 0x506F7400 is set; the low byte is the version, any value. Writers write 0x506F7400 with the version."
+-- The signature of a file. Document 01, "Bytes of an atom": "Signature: four bytes, big endian. It is taken if every
+-- bit of 0x506F7400 is set; the low byte is the version, any value. Writers write 0x506F7400 with the version."
 use Prim.Native.Nat.{ℕ, zero, suc, _+_, _*_, _/_, _%_}
 use mathlib.Core.Bool.{Bool, true, _&&_}
 use mathlib.Core.List.{List, [], _∷_}
@@ -32,8 +32,8 @@ abbrev pub judged : ℕ → Place → VersionAnswer
 judged word place =
     pick (everyBit 32 signature word) (VA.Read place (word % 256)) (VA.Refused place R.IncompatibleVersion)
 
--- the signature read at a place within the source; "1 IncompatibleVersion: place past 4 bytes or at end", "4 Eof: end of
--- slice"
+-- the signature read at a place within the source; "1 IncompatibleVersion: place past 4 bytes or at end", "4 Eof: end
+-- of slice"
 unfoldable pub versionFrom : Way → List ℕ → ℕ → VersionAnswer
 versionFrom way source at =
     upTo way (length source) (at + 4)

@@ -1,12 +1,13 @@
 // The atom header and the file's signature, read under each way and written into a lent buffer. Document 01, "Bytes of an
 // atom"; format.rs, `write_atom_header` to `read_header`.
 ghost use mathlib.Core.Path.{_≡_};
-ghost use mathlib.Core.List.{_++_};
+ghost use mathlib.Core.List.{_∷_};
 ghost use Prim.Native.Nat.{_≤_, _<_, _+_, _*_, _^_};
+ghost use lib.Dec.{ltb};
 ghost use lib.ListN.{length, drop, getD};
 ghost use Rattle.types.specs.declared.Kind.{Kind};
 ghost use Rattle.types.specs.Kinds.{kindFrom, kindKnown};
-ghost use Rattle.lent.specs.Lent.{writtenAnswer, writtenContent};
+ghost use Rattle.lent.specs.Lent.{writtenAnswer, writtenContent, copiedOver};
 ghost use Rattle.header.specs.Header.{headerRead, headerBytes, laterBytes, laterFrom};
 ghost use Rattle.header.specs.Signature.{versionRead, judged, signatureBytes};
 use types::HeaderAnswer;
@@ -42,10 +43,23 @@ pub fn header_length(arg: u64) -> usize
     later_length(arg / 16) + 1
 }
 
-// Writes the later part of an argument, 7 bits to a byte, lowest first.
-fn write_later(out: &mut [u8], rest: u64)
+// Whether a buffer of that length has room for a header of two bytes or more. Ten bytes are room for any, so that the
+// bytes of the later part are seldom counted.
+fn has_room(room: usize, rest: u64) -> bool
+    requires { ⌜ rest < 128 ^ 9 ⌝ }
+    ensures { λ r. ⌜ r ≡ ltb (length (laterBytes 9 rest)) room ⌝ }
+{
+    if 10 <= room {
+        return true;
+    }
+    later_length(rest) < room
+}
+
+// Writes the later part of an argument, 7 bits to a byte, lowest first, and answers how many bytes it took.
+fn write_later(out: &mut [u8], rest: u64) -> usize
     requires { ⌜ (rest < 128 ^ 9) × (length (laterBytes 9 rest) ≤ length (now out)) ⌝ }
-    ensures { λ r. ⌜ now (out .exit) ≡ laterBytes 9 rest ++ drop (length (laterBytes 9 rest)) (now (out .entry)) ⌝ }
+    ensures { λ r. ⌜ (r ≡ length (laterBytes 9 rest)) × (r ≤ 9) ⌝ }
+    ensures { λ r. ⌜ now (out .exit) ≡ copiedOver (laterBytes 9 rest) (now (out .entry)) ⌝ }
 {
     let mut i: usize = 0;
     let mut arg = rest;
@@ -55,6 +69,17 @@ fn write_later(out: &mut [u8], rest: u64)
         i += 1;
     }
     out[i] = arg as u8;
+    i + 1
+}
+
+// Writes a header of two bytes or more that has its room, and answers how many bytes it took.
+fn write_long(out: &mut [u8], first: u8, rest: u64) -> usize
+    requires { ⌜ (rest < 128 ^ 9) × (length (laterBytes 9 rest) < length (now out)) ⌝ }
+    ensures { λ r. ⌜ r ≡ length (laterBytes 9 rest) + 1 ⌝ }
+    ensures { λ r. ⌜ now (out .exit) ≡ copiedOver (first ∷ laterBytes 9 rest) (now (out .entry)) ⌝ }
+{
+    out[0] = first;
+    write_later(&mut out[1..], rest) + 1
 }
 
 // Writes an atom header: one byte where the argument is below 16, and up to ten.
@@ -67,19 +92,11 @@ pub fn write_atom_header(out: &mut [u8], kind: Kind, arg: u64) -> Written
         return lent::put_one(out, first_byte + arg as u8);
     }
     let rest = arg / 16;
-    let length = later_length(rest) + 1;
-    if out.len() < length {
-        return Written::Refused(Refusal::no_room(length));
+    if has_room(out.len(), rest) {
+        let first = first_byte + 16 + (arg % 16) as u8;
+        return Written::Count(write_long(out, first, rest));
     }
-    out[0] = first_byte + 16 + (arg % 16) as u8;
-    write_later(&mut out[1..], rest);
-    Written::Count(length)
-}
-
-fn wide(byte: u8) -> u64
-    ensures { λ r. ⌜ (r ≡ byte) × (r < 256) ⌝ }
-{
-    byte as u64
+    Written::Refused(Refusal::no_room(later_length(rest) + 1))
 }
 
 // The kind of a code of three bits.
@@ -115,7 +132,7 @@ fn read_later(source: &[u8], at: usize, kind: Kind, low: u64, way: Way) -> Heade
     while place < end {
         let byte = source[place];
         let data = byte % 128;
-        arg = arg | (wide(data) << offset);
+        arg = arg | (little::byte64(data) << offset);
         offset += 7;
         place += 1;
         if data == byte {
@@ -139,7 +156,7 @@ pub fn read_atom_header(source: &[u8], place: Place, way: Way) -> HeaderAnswer
     if at < source.len() {
         let first_byte = source[at];
         let kind = kind_of(first_byte / 32);
-        let low = wide(first_byte % 16);
+        let low = little::byte64(first_byte % 16);
         if first_byte / 16 % 2 == 0 {
             return HeaderAnswer::Read(Place(at + 1), kind, low);
         }
@@ -166,20 +183,8 @@ pub fn write_header(out: &mut [u8], version: u8) -> Written
     Written::Count(4)
 }
 
-// The byte at a place and a distance from it, zero past the end.
-fn byte_at(source: &[u8], at: usize, i: usize) -> u32
-    requires { ⌜ (at ≤ length (now source)) × (i < 4) ⌝ }
-    ensures { λ r. ⌜ (r ≡ getD (drop at (now (source .entry))) i 0) × (r < 256) ⌝ }
-{
-    let place = at + i;
-    if place < source.len() {
-        return source[place] as u32;
-    }
-    0
-}
-
 // Takes a signature's word if it has every bit of 'Pot'.
-fn judge(header: u32, place: Place) -> VersionAnswer
+fn judge(header: u64, place: Place) -> VersionAnswer
     ensures { λ r. ⌜ r ≡ judged header place ⌝ }
 {
     if header & 0x506F_7400 == 0x506F_7400 {
@@ -193,10 +198,10 @@ pub fn read_header(source: &[u8], place: Place, way: Way) -> VersionAnswer
     ensures { λ r. ⌜ r ≡ versionRead way (now (source .entry)) (place .0) ⌝ }
 {
     let at = place.within(source.len());
-    let header = byte_at(source, at, 0) * 0x100_0000
-        + byte_at(source, at, 1) * 0x1_0000
-        + byte_at(source, at, 2) * 0x100
-        + byte_at(source, at, 3);
+    let header = little::byte_at(source, at, 0) * 0x100_0000
+        + little::byte_at(source, at, 1) * 0x1_0000
+        + little::byte_at(source, at, 2) * 0x100
+        + little::byte_at(source, at, 3);
     if 4 <= source.len() - at {
         return judge(header, Place(at + 4));
     }

@@ -1,11 +1,11 @@
 -- The ends of the readers of an integer of any kind and count: what each has in hand at a return, and what it answers.
-use mathlib.Core.Path.{_≡_, refl, _∙_, sym}
-use mathlib.Core.Bool.{Bool, true, false, not}
+use mathlib.Core.Path.{_≡_, refl, _∙_, sym, ap}
+use mathlib.Core.Bool.{Bool, true, false}
 use mathlib.Core.List.{List, [], _∷_}
 use Prim.Native.Nat.{ℕ, _+_, _-_, _≤_, _<_}
 use native.Mathlib.Omega.{arith}
 use borrow.Author.Needs.{needs}
-use borrow.Author.Tests.{le-leb, lt-leb, not-true, not-false}
+use borrow.Author.Tests.{le-leb, lt-leb}
 use types.Run.{OneOf, miss}
 use denote.Enum.Declared.{tagOf}
 use lib.ListN.{length}
@@ -20,9 +20,12 @@ use Rattle.types.specs.declared.Integer.{Integer}
 use Rattle.types.specs.declared.Refusal.{Refusal}
 use Rattle.types.specs.declared.Refusal.the-variants as R
 use Rattle.types.specs.declared.IntegerAnswer.the-variants as IA
-use Rattle.little.specs.Le.{numberAt}
+use Rattle.little.specs.Le.{numberAt, filledAt}
+use Rattle.little.proofs.Judged.{judged-laws}
+use Rattle.little.proofs.Zeros.{block-number, block-laws}
 use Rattle.integer.specs.Integers.{intOf, uintOf, integerKind, integerOf}
 use Rattle.integer.specs.Integers.{integerBody, integerFrom, integerRead}
+use Rattle.integer.proofs.Counts.{allowed-bounds}
 
 -- Int and UInt are the kinds of integers
 pub kind-of-integers : (kind known : Kind) → kind ≡ known → integerKind known ≡ true → true ≡ integerKind kind
@@ -55,6 +58,18 @@ module _ (count bits : ℕ) (value : Integer) where
   unsigned-kind K.Bytes h e = e
 
 pub ruleset kind-ends = (kind-of-integers, kind-of-others, signed-kind, unsigned-kind, needs)
+
+-- bytes that run past the end are read in a block, where all of them are there
+pub few-bytes : (count : ℕ) → allowedCount count ≡ true → count ≤ 16
+few-bytes count a = allowed-bounds count a .1
+
+pub block-value : (s block : List ℕ) (at count : ℕ) → block ≡ filledAt 16 s at → allowedCount count ≡ true →
+    (kind : Kind) (value : Integer) → value ≡ integerOf kind count (numberAt count block 0) →
+    value ≡ integerOf kind count (numberAt count s at)
+block-value s block at count b a kind value e =
+    e ∙ ap (integerOf kind count) (block-number 16 s at block b count (few-bytes count a) _ refl)
+
+pub ruleset block-ends = (block-laws, few-bytes, block-value, needs)
 
 -- an integer read at a place
 module _ (way : Way) (s : List ℕ) (place at : ℕ) (kind : Kind) (count : ℕ) (w : at ≡ placeIn (length s) place) where
@@ -91,18 +106,5 @@ module _ (way : Way) (s : List ℕ) (place at : ℕ) (kind : Kind) (count : ℕ)
         unfolding integerFrom integerBody
         read-filled value y v = cc (lt-leb (at + count) (length s) (omega arith))
 
--- a callee's answer whose opposite was tested
-module _ (ok said : Bool) where
-  pub passed : not ok ≡ false → ok ≡ said → said ≡ true
-  passed f s = sym s ∙ not-false ok f
-
-  pub failed : not ok ≡ true → ok ≡ said → said ≡ false
-  failed f s = sym s ∙ not-true ok f
-
--- the bytes that the room was judged for are there
-pub bytes-there : (at count long : ℕ) → at ≤ long → count ≤ long - at → allowedCount count ≡ true →
-    (allowedCount count ≡ true) × (at + count ≤ long)
-bytes-there at count long h l a = (a, omega arith)
-
 pub ruleset read-ends =
-    (kind-refused, count-refused, read-whole, read-past-end, read-filled, passed, failed, bytes-there, needs)
+    (kind-refused, count-refused, read-whole, read-past-end, read-filled, judged-laws, needs)

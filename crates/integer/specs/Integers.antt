@@ -1,5 +1,5 @@
--- Integers read from bytes. Document 01, "Bytes of an atom": "Int and UInt: byte count is argument + 1; counts 1, 2, 3, 4, 6,
--- 8, 16; little endian, Int in two's complement", and "Refusals by number".
+-- Integers read from bytes. Document 01, "Bytes of an atom": "Int and UInt: byte count is argument + 1; counts 1, 2, 3,
+-- 4, 6, 8, 16; little endian, Int in two's complement", and "Refusals by number".
 use Prim.Native.Nat.{ℕ, _+_}
 use mathlib.Core.Bool.{Bool, true}
 use mathlib.Core.List.{List}
@@ -22,7 +22,8 @@ use Rattle.types.specs.declared.IntegerAnswer.the-variants as IA
 use Rattle.little.specs.Le.{numberAt}
 use Rattle.little.specs.Twos.{twos}
 
--- "Read results are I8, I16, I32 (3 and 4 bytes), I64 (6 and 8), I128": of that many bytes that hold v, an allowed count
+-- "Read results are I8, I16, I32 (3 and 4 bytes), I64 (6 and 8), I128": of that many bytes that hold v, an allowed
+-- count
 unfoldable pub intOf : ℕ → ℕ → Integer
 intOf count v =
     pick (eqb count 1) (I.I8 (twos count v))
@@ -53,13 +54,14 @@ integerBody way source at kind count =
     (λ p. IA.Read (record { 0 = p }) (integerOf kind count (numberAt count source at)))
     (IA.Refused (record { 0 = length source }) R.Eof)
 
--- "7 UnexpectedKind(kind, wanted): number read asked of another kind (wanted: Int for integer reads), before the count is
--- judged: unchanged"; "6 UnsupportedByteCount(kind, count): number width not allowed"; "A number read asked for directly
--- charges nothing; its refusal 6 leaves the place."
+-- "7 UnexpectedKind(kind, wanted): number read asked of another kind (wanted: Int for integer reads), before the count
+-- is judged: unchanged"; "6 UnsupportedByteCount(kind, count): number width not allowed"; "A number read asked for
+-- directly charges nothing; its refusal 6 leaves the place."
 unfoldable pub integerFrom : Way → List ℕ → ℕ → Kind → ℕ → IntegerAnswer
 integerFrom way source at kind count =
     pick (integerKind kind)
-    (pick (allowedCount count) (integerBody way source at kind count) (IA.Refused (record { 0 = at }) (unsupported kind count)))
+    (pick (allowedCount count) (integerBody way source at kind count)
+    (IA.Refused (record { 0 = at }) (unsupported kind count)))
     (IA.Refused (record { 0 = at }) (R.UnexpectedKind kind K.Int))
 
 -- an integer read at any place

@@ -75,49 +75,6 @@ fn uint_at(source: &[u8], at: usize, count: u64) -> Integer
     }
 }
 
-// The two words of 16 bytes, those past the end zero.
-fn filled_wide(source: &[u8], at: usize) -> Wide
-    requires { ⌜ at ≤ length (now source) ⌝ }
-    ensures { λ r. ⌜ r ≡ words (numberAt 16 (now (source .entry)) at) ⌝ }
-{
-    Wide {
-        lo: little::filled(source, at, 8),
-        hi: little::filled(source, at + 8, 8),
-    }
-}
-
-// The signed integer of an allowed count of bytes, those past the end zero.
-fn filled_int(source: &[u8], at: usize, count: u64) -> Integer
-    requires { ⌜ (allowedCount count ≡ true) × (at ≤ length (now source)) ⌝ }
-    ensures { λ r. ⌜ r ≡ intOf count (numberAt count (now (source .entry)) at) ⌝ }
-{
-    match count {
-        1 => return Integer::I8(little::i8_of(little::filled(source, at, 1))),
-        2 => return Integer::I16(little::i16_of(little::filled(source, at, 2))),
-        3 => return Integer::I32(little::i24_of(little::filled(source, at, 3))),
-        4 => return Integer::I32(little::i32_of(little::filled(source, at, 4))),
-        6 => return Integer::I64(little::i48_of(little::filled(source, at, 6))),
-        8 => return Integer::I64(little::i64_of(little::filled(source, at, 8))),
-        _ => return Integer::I128(filled_wide(source, at)),
-    }
-}
-
-// The unsigned integer of an allowed count of bytes, those past the end zero.
-fn filled_uint(source: &[u8], at: usize, count: u64) -> Integer
-    requires { ⌜ (allowedCount count ≡ true) × (at ≤ length (now source)) ⌝ }
-    ensures { λ r. ⌜ r ≡ uintOf count (numberAt count (now (source .entry)) at) ⌝ }
-{
-    match count {
-        1 => return Integer::U8(little::filled(source, at, 1) as u8),
-        2 => return Integer::U16(little::filled(source, at, 2) as u16),
-        3 => return Integer::U32(little::filled(source, at, 3) as u32),
-        4 => return Integer::U32(little::filled(source, at, 4) as u32),
-        6 => return Integer::U64(little::filled(source, at, 6)),
-        8 => return Integer::U64(little::filled(source, at, 8)),
-        _ => return Integer::U128(filled_wide(source, at)),
-    }
-}
-
 // Whether a kind is one of integers.
 fn is_integer(kind: Kind) -> bool
     ensures { λ r. ⌜ r ≡ integerKind kind ⌝ }
@@ -145,10 +102,8 @@ pub fn filled_integer(kind: Kind, source: &[u8], at: usize, count: u64) -> Integ
     requires { ⌜ (allowedCount count ≡ true) × (at ≤ length (now source)) ⌝ }
     ensures { λ r. ⌜ r ≡ integerOf kind count (numberAt count (now (source .entry)) at) ⌝ }
 {
-    match kind {
-        Kind::Int => return filled_int(source, at, count),
-        _ => return filled_uint(source, at, count),
-    }
+    let block = little::filled(source, at);
+    integer_at(kind, &block, 0, count)
 }
 
 // Reads an integer of a kind and a count of bytes (the argument of the atom's header, plus one) at a place, under a way.

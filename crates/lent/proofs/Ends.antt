@@ -10,7 +10,7 @@ use lib.Seq.{sets-eq}
 use Rattle.types.specs.Refusals.{noRoom}
 use Rattle.types.specs.declared.Refusal.{Refusal}
 use Rattle.types.specs.declared.Written.the-variants as W
-use Rattle.lent.specs.Lent.{writtenAnswer, writtenContent}
+use Rattle.lent.specs.Lent.{writtenAnswer, writtenContent, copiedOver}
 use Rattle.lent.proofs.Stores.{copy-more, copy-done}
 
 module _ (bytes old : List ℕ) (count : ℕ) where
@@ -27,11 +27,12 @@ module _ (bytes old : List ℕ) (count : ℕ) where
   room-answer e h = cc (le-ltb (length old) count h)
 
 -- and stand in front of what was there
-pub room-content : (bytes old new : List ℕ) → length bytes ≤ length old → new ≡ bytes ++ drop (length bytes) old →
+pub room-content : (bytes old new : List ℕ) → length bytes ≤ length old → new ≡ copiedOver bytes old →
     new ≡ writtenContent bytes old
 room-content bytes old new h e = cc (le-ltb (length old) (length bytes) h)
 
 pub one-content : (byte : ℕ) (old : List ℕ) → 1 ≤ length old → set old 0 byte ≡ writtenContent (byte ∷ []) old
+unfolding copiedOver
 one-content byte old h = room-content (byte ∷ []) old (set old 0 byte) h (sets-eq (byte ∷ []) old 0 h)
 
 -- the loop that copies: so many of the bytes stand in front of what was there
@@ -55,7 +56,8 @@ module _ (old bytes new : List ℕ) (i : ℕ) (c : Copying old bytes new i) wher
       content = rw (c .content, copy-more old bytes i h room);
     }
 
-  pub copy-ends : length bytes ≤ i → new ≡ bytes ++ drop (length bytes) old
+  pub copy-ends : length bytes ≤ i → new ≡ copiedOver bytes old
+  unfolding copiedOver
   copy-ends h = let w = c .within in c .content ∙ copy-done old bytes i (omega arith)
 
 pub ruleset written-ends = (short-answer, short-content, room-answer, room-content, one-content, needs)

@@ -1,2 +1,3 @@
 pub mod Stores
 pub mod Ends
+pub mod Copies

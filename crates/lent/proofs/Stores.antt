@@ -8,7 +8,7 @@ use lib.ListN.{length, take, drop, set, getD, length-append, length-drop}
 use borrow.Author.Tests.{le-ltb, lt-ltb}
 use lib.Seq.{drop-cons, take-suc, set-at, length-take-le, take-length, take-append-seam, drop-append-seam, drop-length}
 use lib.Seq.{drop-drop, take-all}
-use Rattle.lent.specs.Lent.{writtenAnswer, writtenContent}
+use Rattle.lent.specs.Lent.{writtenAnswer, writtenContent, copiedOver}
 use Rattle.types.specs.Refusals.{noRoom}
 use Rattle.types.specs.declared.Written.the-variants as W
 
@@ -26,6 +26,7 @@ answer-room bytes old h = simp (le-ltb (length old) (length bytes) h)
 
 pub content-room : (bytes old : List ℕ) → length bytes ≤ length old →
     writtenContent bytes old ≡ bytes ++ drop (length bytes) old
+unfolding copiedOver
 content-room bytes old h = simp (le-ltb (length old) (length bytes) h)
 
 -- one store more of a buffer whose first i elements are those of s, and the rest as in d
@@ -38,14 +39,15 @@ copy-more d s i h k =
     (rw (set-at (take i s) (getD d i 0) (drop (suc i) d) (getD s i 0) i m, take-suc s i 0, append-assoc))
 
 -- all of them stored
-pub copy-done : (d s : List ℕ) (i : ℕ) → i ≡ length s → take i s ++ drop i d ≡ s ++ drop (length s) d
+pub copy-done : (d s : List ℕ) (i : ℕ) → i ≡ length s → take i s ++ drop i d ≡ copiedOver s d
+unfolding copiedOver
 copy-done d s i e = rw (e, take-length s)
 
 -- A head is written, and then another writer fills the part after it: the whole is the one writing of both.
-pub headed : (hd src old xs ys : List ℕ) → length hd + length src ≤ length old → xs ≡ hd ++ drop (length hd) old →
-    ys ≡ src ++ drop (length src) (take (length xs - length hd) (drop (length hd) xs)) →
-    take (length hd) xs ++ (ys ++ drop (length xs - length hd) (drop (length hd) xs))
-    ≡ (hd ++ src) ++ drop (length (hd ++ src)) old
+pub headed : (hd src old xs ys : List ℕ) → length hd + length src ≤ length old → xs ≡ copiedOver hd old →
+    ys ≡ copiedOver src (take (length xs - length hd) (drop (length hd) xs)) →
+    take (length hd) xs ++ (ys ++ drop (length xs - length hd) (drop (length hd) xs)) ≡ copiedOver (hd ++ src) old
+unfolding copiedOver
 headed hd src old xs ys h e k =
     let rest : List ℕ = drop (length hd) old in
     let t : take (length hd) xs ≡ hd = ap (take (length hd)) e ∙ take-append-seam hd rest in

@@ -8,11 +8,16 @@ use Rattle.types.specs.Refusals.{noRoom}
 use Rattle.types.specs.declared.Written.{Written}
 use Rattle.types.specs.declared.Written.the-variants as W
 
+-- "Copying fills the first bytes and the rest keep their value"
+unfoldable pub copiedOver : List ℕ → List ℕ → List ℕ
+copiedOver bytes old = bytes ++ drop (length bytes) old
+
 -- "9 NoRoom: output shorter than the whole write"; else the count of the bytes
 abbrev pub writtenAnswer : List ℕ → List ℕ → Written
-writtenAnswer bytes old = pick (ltb (length old) (length bytes)) (W.Refused (noRoom (length bytes))) (W.Count (length bytes))
+writtenAnswer bytes old =
+    pick (ltb (length old) (length bytes)) (W.Refused (noRoom (length bytes))) (W.Count (length bytes))
 
 -- "A writer starts at its buffer's first byte and touches only the bytes it counts in its answer"; on a refusal
 -- "buffers keep their bytes"
 abbrev pub writtenContent : List ℕ → List ℕ → List ℕ
-writtenContent bytes old = pick (ltb (length old) (length bytes)) old (bytes ++ drop (length bytes) old)
+writtenContent bytes old = pick (ltb (length old) (length bytes)) old (copiedOver bytes old)

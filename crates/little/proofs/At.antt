@@ -5,17 +5,14 @@ use mathlib.Core.Bool.{Bool, true, false}
 use mathlib.Core.List.{List, _++_}
 use Prim.Native.Nat.{ℕ, zero, suc, _+_, _-_, _*_, _%_, _^_, _<_, _≤_}
 use native.Mathlib.Omega.{arith}
-use native.Mathlib.Nat.{zero-add, add-zero, suc-add, mul-assoc, mul-comm, pow-suc, pow-succ'}
-use native.Mathlib.Nat.{lt-of-lt-of-le, pow-le-pow-right}
-use mir.Syntax.{w64}
-use mir.Val.{Fits}
+use native.Mathlib.Nat.{zero-add, add-zero, suc-add, mul-assoc, mul-comm, pow-succ'}
 use borrow.Author.Needs.{needs}
-use lib.Dec.{ltb, lit<}
+use lib.Dec.{ltb}
 use lib.ListN.{length, getD, drop-of-length-le, List·getD-eq-default}
 use lib.Seq.{drop-cons, take-nil, drop-at, take-append-seam}
 use borrow.Author.Tests.{ltb-true, ltb-false}
 use Rattle.little.specs.Le.{fromLE, toLE, numberAt}
-use Rattle.little.proofs.Width.{byte-pow-pos, from-to, to-length}
+use Rattle.little.proofs.Width.{from-to, to-length}
 
 past : (s : List ℕ) (j : ℕ) → length s ≤ j → getD s j 0 ≡ 0
 past s j h = List·getD-eq-default s 0 h
@@ -51,11 +48,6 @@ number-add (suc n) m s at =
       pow-succ' 256 n,
       mul-assoc,
     ) (omega arith)
-
--- of bytes, it fits its count
-pub number-lt : (n : ℕ) (s : List ℕ) (at : ℕ) → ((i : ℕ) → getD s i 0 < 256) → numberAt n s at < 256 ^ n
-number-lt zero s at h = rw (number-none s at) (lit< tt)
-number-lt (suc n) s at h = rw (number-more n s at, pow-suc 256 n) (omega (arith, h at, number-lt n s (suc at) h))
 
 -- where bytes stand, their number is read
 pub number-stands : (before bytes after : List ℕ) →
@@ -103,61 +95,4 @@ module _ (s : List ℕ) (at : ℕ) where
       let high : b ≡ numberAt (n - (n - 1)) s (at + (n - 1)) = rw one (e ∙ sym alone) in
       two-parts (n - 1) n low b weight l high (omega arith) w
 
--- The loop that reads from the highest byte down: v is the number of the bytes from i on.
-pub record Filling (s : List ℕ) (at n v i : ℕ) : Type 0 where
-  pub within : i ≤ n
-  pub below : v < 256 ^ (n - i)
-  pub same : v ≡ numberAt (n - i) s (at + i)
-
-pub filling-begins : (s : List ℕ) (at n : ℕ) → Filling s at n 0 n
-filling-begins s at n =
-    let none : n - n ≡ 0 = omega arith in
-    record { within = omega arith; below = byte-pow-pos (n - n); same = rw (none, number-none s (at + n)) }
-
-module _ (s : List ℕ) (at n v i : ℕ) (inv : Filling s at n v i) where
-  module _ (h : 0 < i) where
-    -- there is room for one byte more
-    module _ (few : n ≤ 8) where
-      small : v < 256 ^ 7
-      small = lt-of-lt-of-le (inv .below) (pow-le-pow-right {n = 256} (lit< tt) {i = n - i} {j = 7} (omega arith))
-
-      pub shifted-fits : Fits w64 (v * 256)
-      shifted-fits = let l = small in record { fits = omega arith }
-
-      pub more-fits : (b : ℕ) → b < 256 → Fits w64 (v * 256 + b)
-      more-fits b k = let l = small in record { fits = omega arith }
-
-    pub filling-turn : (b : ℕ) → b ≡ getD s (at + (i - 1)) 0 → b < 256 → Filling s at n (v * 256 + b) (i - 1)
-    filling-turn b e k =
-        let w = inv .within in
-        let l = inv .below in
-        let one : n - (i - 1) ≡ suc (n - i) = omega arith in
-        let next : at + i ≡ suc (at + (i - 1)) = omega arith in
-        let high : v ≡ numberAt (n - i) s (suc (at + (i - 1))) = inv .same ∙ ap (numberAt (n - i) s) next in
-        record {
-          within = omega arith;
-          below = rw (one, pow-suc 256 (n - i)) (omega arith);
-          same = rw one (omega (arith, number-more (n - i) s (at + (i - 1))));
-        }
-
-  module _ (h : i ≤ 0) where
-    whole : n - i ≡ n
-    whole = omega arith
-
-    pub filled-number : v ≡ numberAt n s at
-    filled-number = let front : at + i ≡ at = omega arith in rw (whole, front) at (inv .same)
-
-    pub filled-below : v < 256 ^ n
-    filled-below = rw whole at (inv .below)
-
 pub ruleset read-ends = (past-end, past-rest, one-byte, two-parts, byte-above, needs)
-
-pub ruleset filling-laws = (
-  filling-begins,
-  shifted-fits,
-  more-fits,
-  filling-turn,
-  filled-number,
-  filled-below,
-  needs,
-)

@@ -1,5 +1,7 @@
 pub mod Width
 pub mod At
+pub mod Zeros
+pub mod Judged
 pub mod Two
 pub mod Signs
 pub mod Shortest

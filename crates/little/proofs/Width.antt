@@ -34,13 +34,6 @@ unfolding toLE
 to-length zero k = refl
 to-length (suc n) k = ap suc (to-length n (k / 256))
 
--- each of them is a byte
-pub to-byte : (n k i : ℕ) → getD (toLE n k) i 0 < 256
-unfolding toLE
-to-byte zero k i = omega arith
-to-byte (suc n) k zero = omega arith
-to-byte (suc n) k (suc i) = to-byte n (k / 256) i
-
 -- read, then written: the bytes
 pub to-from : (l : List ℕ) → ((i : ℕ) → getD l i 0 < 256) → toLE (length l) (fromLE l) ≡ l
 unfolding fromLE toLE
@@ -49,12 +42,6 @@ to-from (b ∷ bs) h =
     let low : (b + 256 * fromLE bs) % 256 ≡ b = omega (arith, h 0) in
     let high : (b + 256 * fromLE bs) / 256 ≡ fromLE bs = omega (arith, h 0) in
     rw (low, high, to-from bs (λ i. h (suc i)))
-
--- the number of n bytes is below 256 ^ n
-pub from-lt : (l : List ℕ) → ((i : ℕ) → getD l i 0 < 256) → fromLE l < 256 ^ length l
-unfolding fromLE
-from-lt [] h = lit< tt
-from-lt (b ∷ bs) h = rw (pow-suc 256 (length bs)) (omega (arith, h 0, from-lt bs (λ i. h (suc i))))
 
 -- the n lowest bytes are those of the remainder
 pub to-mod : (n k : ℕ) → toLE n (k % 256 ^ n) ≡ toLE n k

@@ -6,7 +6,7 @@ ghost use mathlib.Core.List.{_∷_, _++_};
 ghost use Prim.Native.Nat.{_+_, _<_, _≤_, _^_};
 ghost use lib.ListN.{length, getD};
 ghost use Rattle.lent.specs.Lent.{writtenAnswer, writtenContent};
-ghost use Rattle.little.specs.Le.{toLE, numberAt};
+ghost use Rattle.little.specs.Le.{toLE, numberAt, filledAt};
 ghost use Rattle.little.specs.Twos.{twos, twosBits};
 use types::Refusal;
 use types::Written;
@@ -69,8 +69,8 @@ pub fn le8(s: &[u8], at: usize) -> u64
     le4(s, at) + le4(s, at + 4) * 0x1_0000_0000
 }
 
-// The byte at a place and an offset, and zero past the end.
-fn byte_at(s: &[u8], at: usize, i: usize) -> u64
+// The byte at a place and a distance from it, and zero past the end.
+pub fn byte_at(s: &[u8], at: usize, i: usize) -> u64
     ensures { λ r. ⌜ (r ≡ getD (now (s .entry)) (at + i) 0) × (r < 256) ⌝ }
 {
     let n = s.len();
@@ -83,18 +83,18 @@ fn byte_at(s: &[u8], at: usize, i: usize) -> u64
     0
 }
 
-// The number of n bytes, those past the end zero: a helper of readers, which ask for at most 8.
-pub fn filled(s: &[u8], at: usize, n: usize) -> u64
-    requires { ⌜ n ≤ 8 ⌝ }
-    ensures { λ r. ⌜ (r ≡ numberAt n (now (s .entry)) at) × (r < 256 ^ n) ⌝ }
+// The 16 bytes at a place, those past the end zero. Filled reading of a number is reading it in this block, where all
+// its bytes are there, by the functions that read it in a source.
+pub fn filled(s: &[u8], at: usize) -> [u8; 16]
+    ensures { λ r. ⌜ r ≡ filledAt 16 (now (s .entry)) at ⌝ }
 {
-    let mut v: u64 = 0;
-    let mut i = n;
-    while 0 < i {
-        i -= 1;
-        v = v * 256 + byte_at(s, at, i);
+    let mut block = [0u8; 16];
+    let mut i = 0;
+    while i < 16 {
+        block[i] = byte_at(s, at, i) as u8;
+        i += 1;
     }
-    v
+    block
 }
 
 // The value of 1 byte in two's complement: a helper of readers, whose number fits it.

@@ -1,7 +1,7 @@
--- DEMAND 2, its last part: what was written reads back as the value written. For every value writer, for every value, the
--- written bytes, with anything before and after them, read as that value at the place just past them, under every way, lent
--- or copied, from any budget of at least the price, leaving the budget less the price. Strings and specials rest on
--- `atom.Back.bytes-back` and `atom.Back.special-back`.
+-- DEMAND 2, its last part: what was written reads back as the value written. For every value writer, for every value,
+-- the written bytes, with anything before and after them, read as that value at the place just past them, under every
+-- way, lent or copied, from any budget of at least the price, leaving the budget less the price. Strings and specials
+-- rest on `atom.Back.bytes-back` and `atom.Back.special-back`.
 use mathlib.Core.Path.{_≡_, refl, _∙_, sym, ap}
 use mathlib.Core.Bool.{true, false, false≢true}
 use mathlib.Core.List.{List, [], _++_, append-assoc, append-nil}
@@ -45,7 +45,8 @@ use Rattle.float.specs.Bytes.{floatBytes}
 use Rattle.float.proofs.Counts.{Allowed, two, four, eight, allowed-is}
 use Rattle.float.proofs.Stored.{Stored, stored-single, stored-double, meaning-kept}
 use Rattle.float.proofs.RoundTrip as floats
-use Rattle.atom.specs.Atoms.{specialNucleus, atomRead, atomScratch, scratchFrom, scratchCharged, atomFrom, atomAfter, atomOf, judged, integerTaken, headerTaken, integerAtom, floatAtom}
+use Rattle.atom.specs.Atoms.{specialNucleus, atomRead, atomScratch, scratchFrom, scratchCharged, atomFrom, atomAfter}
+use Rattle.atom.specs.Atoms.{atomOf, judged, integerTaken, headerTaken, integerAtom, floatAtom}
 use Rattle.atom.specs.Charges.{budgetAfter}
 use Rattle.atom.proofs.Back.{atom-back, paid, bytes-back, special-back}
 use Rattle.atom.proofs.Answers.{free, judged-left, integer-left, float-left}
@@ -62,14 +63,20 @@ use Rattle.types.specs.Forms.{allowedCount, countOf, numberCharge, chargeOf, kn
 use Rattle.types.proofs.Forms.{written-read}
 use Rattle.cast.specs.Variants.{sign, width, inRange}
 use Rattle.promises.specs.Rows.{Number, int, uint, float}
-use Rattle.promises.specs.Values.{Value, number, natural, integer, f32-bits, f64-bits, f32, f64, special, string, header, HeaderOnly, sequence, map, symbol, kindOf, written, roomFor, Carries, number-carried, natural-carried, integer-carried, f32-bits-carried, f64-bits-carried, f32-carried, f64-carried, special-carried, string-carried, header-carried, ReadBack}
+use Rattle.promises.specs.Values.{Value, number, natural, integer, f32-bits, f64-bits, f32, f64, special, string}
+use Rattle.promises.specs.Values.{header, HeaderOnly, sequence, map, symbol, kindOf, written, roomFor, Carries}
+use Rattle.promises.specs.Values.{number-carried, natural-carried, integer-carried, f32-bits-carried}
+use Rattle.promises.specs.Values.{f64-bits-carried, f32-carried, f64-carried, special-carried, string-carried}
+use Rattle.promises.specs.Values.{header-carried, ReadBack}
 
 -- a count of 1 to 16 is its argument plus 1
 counted : (n : ℕ) → 0 < n → n ≤ 16 → n ≡ countOf (n - 1)
 counted n p q = omega arith
 
 -- what follows an integer's header
-after-integer : (way : Way) (s : List ℕ) (kind : Kind) (arg : ℕ) (next : Place) (budget : Budget) (scratch : List ℕ) → integerKind kind ≡ true → atomAfter way s kind arg next budget scratch ≡ judged kind arg next budget (integerTaken way s kind arg next)
+after-integer : (way : Way) (s : List ℕ) (kind : Kind) (arg : ℕ) (next : Place) (budget : Budget) (scratch : List ℕ) →
+    integerKind kind ≡ true →
+    atomAfter way s kind arg next budget scratch ≡ judged kind arg next budget (integerTaken way s kind arg next)
 after-integer way s K.Special arg next budget scratch e = absurd (false≢true e)
 after-integer way s K.Int arg next budget scratch e = refl
 after-integer way s K.UInt arg next budget scratch e = refl
@@ -80,7 +87,14 @@ after-integer way s K.Symbol arg next budget scratch e = absurd (false≢true e)
 after-integer way s K.Bytes arg next budget scratch e = absurd (false≢true e)
 
 -- a number of an allowed count, whatever wrote it
-pub integer-back : (way : Way) (kind : Kind) (n bits : ℕ) (before after : List ℕ) (budget : Budget) (scratch : List ℕ) → integerKind kind ≡ true → allowedCount n ≡ true → bits < 256 ^ n → numberCharge n ≤ budget .0 → atomRead way (before ++ (integerBytes kind n bits ++ after)) (length before) budget scratch ≡ A.Read (record { 0 = length before + length (integerBytes kind n bits) }) (record { 0 = budget .0 - numberCharge n }) (atomOf kind (n - 1) (N.Integer (integerOf kind n bits)))
+pub integer-back : (way : Way) (kind : Kind) (n bits : ℕ) (before after : List ℕ) (budget : Budget) (scratch : List ℕ) →
+    integerKind kind ≡ true →
+    allowedCount n ≡ true →
+    bits < 256 ^ n →
+    numberCharge n ≤ budget .0 →
+    atomRead way (before ++ (integerBytes kind n bits ++ after)) (length before) budget scratch
+    ≡ A.Read (record { 0 = length before + length (integerBytes kind n bits) })
+    (record { 0 = budget .0 - numberCharge n }) (atomOf kind (n - 1) (N.Integer (integerOf kind n bits)))
 unfolding integerBytes
 integer-back way kind n bits before after budget scratch k a l b =
     let range = allowed-bounds n a in
@@ -92,44 +106,70 @@ integer-back way kind n bits before after budget scratch k a l b =
     let left : Budget = record { 0 = budget .0 - numberCharge n } in
     let split : s ≡ (before ++ hd) ++ (le ++ after) = sym (append-assoc before hd (le ++ after)) in
     let place : length (before ++ hd) ≡ length before + length hd = length-append before hd in
-    let whole : length (hd ++ le) ≡ length hd + n = length-append hd le ∙ ap (λ (m : ℕ). length hd + m) (to-length n bits) in
+    let whole : length (hd ++ le) ≡ length hd + n =
+    length-append hd le ∙ ap (λ (m : ℕ). length hd + m) (to-length n bits) in
     let end : length before + length hd + n ≡ length before + length (hd ++ le) = omega arith in
     ap (λ (l : List ℕ). atomRead way (before ++ l) (length before) budget scratch) (append-assoc hd le after)
     ∙ atom-back way kind (n - 1) before (le ++ after) budget scratch arg
     ∙ after-integer way s kind (n - 1) next budget scratch k
-    ∙ sym (integer-left way s (n - 1) next budget left n (counted n (range .0) (range .1)) (paid budget (numberCharge n) b) kind k a)
-    ∙ ap (integerAtom kind (n - 1) left) (ap (λ (p : ℕ). integerBody way s p kind n) (sym place) ∙ body-back way kind n bits (before ++ hd) after s split l ∙ ap (λ (p : ℕ). IA.Read (record { 0 = p + n }) (integerOf kind n bits)) place)
+    ∙ sym (integer-left way s (n - 1) next budget left n (counted n (range .0) (range .1))
+    (paid budget (numberCharge n) b) kind k a)
+    ∙ ap (integerAtom kind (n - 1) left) (ap (λ (p : ℕ). integerBody way s p kind n) (sym place)
+    ∙ body-back way kind n bits (before ++ hd) after s split l
+    ∙ ap (λ (p : ℕ). IA.Read (record { 0 = p + n }) (integerOf kind n bits)) place)
     ∙ ap (λ (p : ℕ). A.Read (record { 0 = p }) left (atomOf kind (n - 1) (N.Integer (integerOf kind n bits)))) end
 
 -- A SIGNED VALUE reads back: as the variant of its count, which carries the value
-pub signed-back : (way : Way) (z : ℤ) (before after : List ℕ) (budget : Budget) (scratch : List ℕ) → holdsS 16 z ≡ true → numberCharge (shortestS z) ≤ budget .0 → (atomRead way (before ++ (signedBytes z ++ after)) (length before) budget scratch ≡ A.Read (record { 0 = length before + length (signedBytes z) }) (record { 0 = budget .0 - numberCharge (shortestS z) }) (atomOf K.Int (shortestS z - 1) (N.Integer (intOf (shortestS z) (twosBits (shortestS z) z))))) × (value (intOf (shortestS z) (twosBits (shortestS z) z)) ≡ z)
+pub signed-back : (way : Way) (z : ℤ) (before after : List ℕ) (budget : Budget) (scratch : List ℕ) →
+    holdsS 16 z ≡ true →
+    numberCharge (shortestS z) ≤ budget .0 →
+    (atomRead way (before ++ (signedBytes z ++ after)) (length before) budget scratch
+    ≡ A.Read (record { 0 = length before + length (signedBytes z) })
+    (record { 0 = budget .0 - numberCharge (shortestS z) })
+    (atomOf K.Int (shortestS z - 1) (N.Integer (intOf (shortestS z) (twosBits (shortestS z) z)))))
+    × (value (intOf (shortestS z) (twosBits (shortestS z) z)) ≡ z)
 unfolding signedBytes
 signed-back way z before after budget scratch h b =
     let n : ℕ = shortestS z in
     let held = shortestS-holds z h in
-    let listed = written-read n (shortestS-listed z h) in
-    (integer-back way K.Int n (twosBits n z) before after budget scratch refl listed (bits-lt n z held) b, int-value-back n z listed held)
+    let listed = written-read n (shortestS-listed z h) in (
+      integer-back way K.Int n (twosBits n z) before after budget scratch refl listed (bits-lt n z held) b,
+      int-value-back n z listed held,
+    )
 
 held-lt : (n k : ℕ) → holdsU n k ≡ true → k < 256 ^ n
 unfolding holdsU
 held-lt n k h = ltb-true k (256 ^ n) h
 
 -- AN UNSIGNED VALUE likewise
-pub unsigned-back : (way : Way) (k : ℕ) (before after : List ℕ) (budget : Budget) (scratch : List ℕ) → k < 256 ^ 16 → numberCharge (shortestU k) ≤ budget .0 → (atomRead way (before ++ (unsignedBytes k ++ after)) (length before) budget scratch ≡ A.Read (record { 0 = length before + length (unsignedBytes k) }) (record { 0 = budget .0 - numberCharge (shortestU k) }) (atomOf K.UInt (shortestU k - 1) (N.Integer (uintOf (shortestU k) k)))) × (value (uintOf (shortestU k) k) ≡ pos k)
+pub unsigned-back : (way : Way) (k : ℕ) (before after : List ℕ) (budget : Budget) (scratch : List ℕ) →
+    k < 256 ^ 16 →
+    numberCharge (shortestU k) ≤ budget .0 →
+    (atomRead way (before ++ (unsignedBytes k ++ after)) (length before) budget scratch
+    ≡ A.Read (record { 0 = length before + length (unsignedBytes k) })
+    (record { 0 = budget .0 - numberCharge (shortestU k) })
+    (atomOf K.UInt (shortestU k - 1) (N.Integer (uintOf (shortestU k) k)))) × (value (uintOf (shortestU k) k) ≡ pos k)
 unfolding unsignedBytes
 unsigned-back way k before after budget scratch h b =
     let n : ℕ = shortestU k in
-    let listed = written-read n (shortestU-listed k h) in
-    (integer-back way K.UInt n k before after budget scratch refl listed (held-lt n k (shortestU-holds k h)) b, uint-value n listed k)
+    let listed = written-read n (shortestU-listed k h) in (
+      integer-back way K.UInt n k before after budget scratch refl listed (held-lt n k (shortestU-holds k h)) b,
+      uint-value n listed k,
+    )
 
 float-bounds : (n : ℕ) → Allowed n → (0 < n) × (n ≤ 16)
 float-bounds n (two e) = rw e (omega arith, omega arith)
 float-bounds n (four e) = rw e (omega arith, omega arith)
 float-bounds n (eight e) = rw e (omega arith, omega arith)
 
--- what any float writer stored reads back with the stored bits beside the value; `Stored` says that the value is the one
--- written, with its sign and magnitude, and that a NaN keeps its width and bits
-pub float-back : (way : Way) (own bits : ℕ) (bytes before after : List ℕ) (S : Stored own bits bytes) (budget : Budget) (scratch : List ℕ) → numberCharge (S .count) ≤ budget .0 → atomRead way (before ++ (bytes ++ after)) (length before) budget scratch ≡ A.Read (record { 0 = length before + length bytes }) (record { 0 = budget .0 - numberCharge (S .count) }) (atomOf K.Float (S .count - 1) (N.Float (floatOf (S .count) (S .stored)) (S .stored)))
+-- what any float writer stored reads back with the stored bits beside the value; `Stored` says that the value is the
+-- one written, with its sign and magnitude, and that a NaN keeps its width and bits
+pub float-back : (way : Way) (own bits : ℕ) (bytes before after : List ℕ) (S : Stored own bits bytes) (budget : Budget)
+    (scratch : List ℕ) →
+    numberCharge (S .count) ≤ budget .0 →
+    atomRead way (before ++ (bytes ++ after)) (length before) budget scratch
+    ≡ A.Read (record { 0 = length before + length bytes }) (record { 0 = budget .0 - numberCharge (S .count) })
+    (atomOf K.Float (S .count - 1) (N.Float (floatOf (S .count) (S .stored)) (S .stored)))
 unfolding atomRead
 float-back way own bits bytes before after S budget scratch b =
     let n : ℕ = S .count in
@@ -142,11 +182,19 @@ float-back way own bits bytes before after S budget scratch b =
     let left : Budget = record { 0 = budget .0 - numberCharge n } in
     ap (λ (p : ℕ). atomFrom way s budget scratch (headerFrom way s p)) at
     ∙ ap (atomFrom way s budget scratch) (back .0)
-    ∙ sym (float-left way s (n - 1) next budget left n (counted n (range .0) (range .1)) (paid budget (numberCharge n) b) (S .its-count))
+    ∙ sym (float-left way s (n - 1) next budget left n (counted n (range .0) (range .1))
+    (paid budget (numberCharge n) b) (S .its-count))
     ∙ ap (floatAtom (n - 1) left) (from-body way s (length before + 1) n K.Float refl (S .its-count) ∙ back .1)
 
 -- a written string is delivered: its mark names its bytes, in the source or in the scratch after
-pub bytes-delivered : (way : Way) (before bytes after : List ℕ) (budget : Budget) (scratch : List ℕ) → length bytes < 2 ^ 64 → length bytes ≤ budget .0 → scratchNeeded way (length bytes) ≤ length scratch → markedBytes (stringMark way (length before + length (headerBytes K.Bytes (length bytes))) (length bytes)) (before ++ (headerBytes K.Bytes (length bytes) ++ (bytes ++ after))) (atomScratch way (before ++ (headerBytes K.Bytes (length bytes) ++ (bytes ++ after))) (length before) budget scratch) ≡ bytes
+pub bytes-delivered : (way : Way) (before bytes after : List ℕ) (budget : Budget) (scratch : List ℕ) →
+    length bytes < 2 ^ 64 →
+    length bytes ≤ budget .0 →
+    scratchNeeded way (length bytes) ≤ length scratch →
+    markedBytes (stringMark way (length before + length (headerBytes K.Bytes (length bytes))) (length bytes))
+    (before ++ (headerBytes K.Bytes (length bytes) ++ (bytes ++ after)))
+    (atomScratch way (before ++ (headerBytes K.Bytes (length bytes) ++ (bytes ++ after))) (length before) budget
+    scratch) ≡ bytes
 unfolding atomScratch
 bytes-delivered way before bytes after budget scratch l b r =
     let n : ℕ = length bytes in
@@ -157,17 +205,21 @@ bytes-delivered way before bytes after budget scratch l b r =
     let split : s ≡ (before ++ hd) ++ (bytes ++ after) = sym (append-assoc before hd (bytes ++ after)) in
     let place : length (before ++ hd) ≡ length before + length hd = length-append before hd in
     let header = ap (λ (p : ℕ). headerFrom way s p) at ∙ header-back way K.Bytes n before (bytes ++ after) l in
-    let same = ap (scratchFrom way s budget scratch) header ∙ ap (scratchCharged way s (length before + length hd) n scratch) (paid budget n b) in
+    let same = ap (scratchFrom way s budget scratch) header ∙ ap (scratchCharged way s (length before + length hd) n
+    scratch) (paid budget n b) in
     ap (markedBytes (stringMark way (length before + length hd) n) s) same
     ∙ ap (λ (p : ℕ). markedBytes (stringMark way p n) s (stringScratch way s p n scratch)) (sym place)
     ∙ string-back s (before ++ hd) bytes after split way scratch r .1
 
 -- ---- what was written costs what its header says
 
-price-headed : (kind : Kind) (arg : ℕ) (after : List ℕ) → arg < 2 ^ 64 → price (headerBytes kind arg ++ after) ≡ chargeOf kind arg
+price-headed : (kind : Kind) (arg : ℕ) (after : List ℕ) →
+    arg < 2 ^ 64 →
+    price (headerBytes kind arg ++ after) ≡ chargeOf kind arg
 price-headed kind arg after h =
     let b = back kind arg after h in
-    ap (λ (k : Kind). chargeOf k (headerArgument (headerBytes kind arg ++ after))) (b .its-kind) ∙ ap (chargeOf kind) (b .its-argument)
+    ap (λ (k : Kind). chargeOf k (headerArgument (headerBytes kind arg ++ after))) (b .its-kind)
+    ∙ ap (chargeOf kind) (b .its-argument)
 
 price-alone : (kind : Kind) (arg : ℕ) → arg < 2 ^ 64 → price (headerBytes kind arg) ≡ chargeOf kind arg
 price-alone kind arg h = ap price (sym (append-nil (headerBytes kind arg))) ∙ price-headed kind arg [] h
@@ -177,7 +229,11 @@ number-charge K.Int int n p q = ap numberCharge (sym (counted n p q))
 number-charge K.UInt uint n p q = ap numberCharge (sym (counted n p q))
 number-charge K.Float float n p q = ap numberCharge (sym (counted n p q))
 
-integer-price : (kind : Kind) → Number kind → (n bits : ℕ) → allowedCount n ≡ true → price (integerBytes kind n bits) ≡ numberCharge n
+integer-price : (kind : Kind) →
+    Number kind →
+    (n bits : ℕ) →
+    allowedCount n ≡ true →
+    price (integerBytes kind n bits) ≡ numberCharge n
 unfolding integerBytes
 integer-price kind w n bits a =
     let range = allowed-bounds n a in
@@ -186,7 +242,8 @@ integer-price kind w n bits a =
 
 signed-price : (z : ℤ) → holdsS 16 z ≡ true → price (signedBytes z) ≡ numberCharge (shortestS z)
 unfolding signedBytes
-signed-price z h = integer-price K.Int int (shortestS z) (twosBits (shortestS z) z) (written-read (shortestS z) (shortestS-listed z h))
+signed-price z h =
+    integer-price K.Int int (shortestS z) (twosBits (shortestS z) z) (written-read (shortestS z) (shortestS-listed z h))
 
 unsigned-price : (k : ℕ) → k < 256 ^ 16 → price (unsignedBytes k) ≡ numberCharge (shortestU k)
 unfolding unsignedBytes
@@ -224,10 +281,18 @@ natural-by n k l h = under k n (256 ^ 16) (ltb-true k n h) l
 
 module _ (way : Way) (before after : List ℕ) (budget : Budget) (scratch : List ℕ) where
   -- from a charge that is the price
-  back-as : (v : Value) (charge : ℕ) (a : Atom) → price (written v) ≡ charge → atomRead way (before ++ (written v ++ after)) (length before) budget scratch ≡ A.Read (record { 0 = length before + length (written v) }) (record { 0 = budget .0 - charge }) a → Carries (before ++ (written v ++ after)) (atomScratch way (before ++ (written v ++ after)) (length before) budget scratch) a v → ReadBack way before after budget scratch v
+  back-as : (v : Value) (charge : ℕ) (a : Atom) →
+      price (written v) ≡ charge →
+      atomRead way (before ++ (written v ++ after)) (length before) budget scratch
+      ≡ A.Read (record { 0 = length before + length (written v) }) (record { 0 = budget .0 - charge }) a →
+      Carries (before ++ (written v ++ after))
+      (atomScratch way (before ++ (written v ++ after)) (length before) budget scratch) a v →
+      ReadBack way before after budget scratch v
   back-as v charge a e r c = record {
     atom = a;
-    is-read = r ∙ ap (λ (n : ℕ). A.Read (record { 0 = length before + length (written v) }) (record { 0 = budget .0 - n }) a) (sym e);
+    is-read =
+        r ∙ ap (λ (n : ℕ). A.Read (record { 0 = length before + length (written v) }) (record { 0 = budget .0 - n }) a)
+        (sym e);
     carries = c;
   }
 
@@ -235,45 +300,80 @@ module _ (way : Way) (before after : List ℕ) (budget : Budget) (scratch : List
   paid-for bytes charge e h = omega arith
 
   -- an integer by its number
-  signed-as : (x : Integer) (h : inRange (sign x) (width x) (value x) ≡ true) (z : ℤ) → valueBytes x ≡ signedBytes z → kindOf (sign x) ≡ K.Int → value x ≡ z → holdsS 16 z ≡ true → price (valueBytes x) ≤ budget .0 → ReadBack way before after budget scratch (integer x h)
+  signed-as : (x : Integer) (h : inRange (sign x) (width x) (value x) ≡ true) (z : ℤ) →
+      valueBytes x ≡ signedBytes z →
+      kindOf (sign x) ≡ K.Int →
+      value x ≡ z →
+      holdsS 16 z ≡ true →
+      price (valueBytes x) ≤ budget .0 →
+      ReadBack way before after budget scratch (integer x h)
   signed-as x h z e k v held b =
       let p : price (valueBytes x) ≡ numberCharge (shortestS z) = ap price e ∙ signed-price z held in
-      let w = signed-back way z before after budget scratch held (paid-for (valueBytes x) (numberCharge (shortestS z)) p b) in
-      back-as (integer x h) (numberCharge (shortestS z)) (atomOf (kindOf (sign x)) (shortestS z - 1) (N.Integer (intOf (shortestS z) (twosBits (shortestS z) z)))) p
+      let w = signed-back way z before after budget scratch held
+      (paid-for (valueBytes x) (numberCharge (shortestS z)) p b) in
+      back-as (integer x h) (numberCharge (shortestS z))
+      (atomOf (kindOf (sign x)) (shortestS z - 1) (N.Integer (intOf (shortestS z) (twosBits (shortestS z) z)))) p
       (rw (e, k) (w .0)) (integer-carried (w .1 ∙ sym v))
 
-  unsigned-as : (x : Integer) (h : inRange (sign x) (width x) (value x) ≡ true) (n : ℕ) → valueBytes x ≡ unsignedBytes n → kindOf (sign x) ≡ K.UInt → value x ≡ pos n → n < 256 ^ 16 → price (valueBytes x) ≤ budget .0 → ReadBack way before after budget scratch (integer x h)
+  unsigned-as : (x : Integer) (h : inRange (sign x) (width x) (value x) ≡ true) (n : ℕ) →
+      valueBytes x ≡ unsignedBytes n →
+      kindOf (sign x) ≡ K.UInt →
+      value x ≡ pos n →
+      n < 256 ^ 16 →
+      price (valueBytes x) ≤ budget .0 →
+      ReadBack way before after budget scratch (integer x h)
   unsigned-as x h n e k v held b =
       let p : price (valueBytes x) ≡ numberCharge (shortestU n) = ap price e ∙ unsigned-price n held in
-      let w = unsigned-back way n before after budget scratch held (paid-for (valueBytes x) (numberCharge (shortestU n)) p b) in
-      back-as (integer x h) (numberCharge (shortestU n)) (atomOf (kindOf (sign x)) (shortestU n - 1) (N.Integer (uintOf (shortestU n) n))) p
+      let w = unsigned-back way n before after budget scratch held
+      (paid-for (valueBytes x) (numberCharge (shortestU n)) p b) in
+      back-as (integer x h) (numberCharge (shortestU n))
+      (atomOf (kindOf (sign x)) (shortestU n - 1) (N.Integer (uintOf (shortestU n) n))) p
       (rw (e, k) (w .0)) (integer-carried (w .1 ∙ sym v))
 
-  integer-any : (x : Integer) (h : inRange (sign x) (width x) (value x) ≡ true) → price (valueBytes x) ≤ budget .0 → ReadBack way before after budget scratch (integer x h)
+  integer-any : (x : Integer) (h : inRange (sign x) (width x) (value x) ≡ true) →
+      price (valueBytes x) ≤ budget .0 →
+      ReadBack way before after budget scratch (integer x h)
   unfolding valueBytes
   integer-any (I.I8 z) h b = signed-as (I.I8 z) h z refl refl refl (held-by (2 ^ 7) z (le-of-lt (lit< tt)) h) b
   integer-any (I.I16 z) h b = signed-as (I.I16 z) h z refl refl refl (held-by (2 ^ 15) z (le-of-lt (lit< tt)) h) b
   integer-any (I.I32 z) h b = signed-as (I.I32 z) h z refl refl refl (held-by (2 ^ 31) z (le-of-lt (lit< tt)) h) b
   integer-any (I.I64 z) h b = signed-as (I.I64 z) h z refl refl refl (held-by (2 ^ 63) z (le-of-lt (lit< tt)) h) b
-  integer-any (I.I128 w) h b = signed-as (I.I128 w) h (joinedSigned w) refl refl refl (held-by (2 ^ 127) (joinedSigned w) (le-refl (2 ^ 127)) h) b
+  integer-any (I.I128 w) h b =
+      signed-as (I.I128 w) h (joinedSigned w) refl refl refl (held-by (2 ^ 127) (joinedSigned w) (le-refl (2 ^ 127)) h)
+      b
   integer-any (I.U8 k) h b = unsigned-as (I.U8 k) h k refl refl refl (natural-by (2 ^ 8) k (le-of-lt (lit< tt)) h) b
   integer-any (I.U16 k) h b = unsigned-as (I.U16 k) h k refl refl refl (natural-by (2 ^ 16) k (le-of-lt (lit< tt)) h) b
   integer-any (I.U32 k) h b = unsigned-as (I.U32 k) h k refl refl refl (natural-by (2 ^ 32) k (le-of-lt (lit< tt)) h) b
   integer-any (I.U64 k) h b = unsigned-as (I.U64 k) h k refl refl refl (natural-by (2 ^ 64) k (le-of-lt (lit< tt)) h) b
-  integer-any (I.U128 w) h b = unsigned-as (I.U128 w) h (joined w) refl refl refl (natural-by (2 ^ 128) (joined w) (le-refl (2 ^ 128)) h) b
+  integer-any (I.U128 w) h b =
+      unsigned-as (I.U128 w) h (joined w) refl refl refl (natural-by (2 ^ 128) (joined w) (le-refl (2 ^ 128)) h) b
 
   -- what a float writer stored
-  stored-read : (v : Value) (own bits : ℕ) (S : Stored own bits (written v)) → price (written v) ≤ budget .0 → Carries (before ++ (written v ++ after)) (atomScratch way (before ++ (written v ++ after)) (length before) budget scratch) (atomOf K.Float (S .count - 1) (N.Float (floatOf (S .count) (S .stored)) (S .stored))) v → ReadBack way before after budget scratch v
+  stored-read : (v : Value) (own bits : ℕ) (S : Stored own bits (written v)) →
+      price (written v) ≤ budget .0 →
+      Carries (before ++ (written v ++ after))
+      (atomScratch way (before ++ (written v ++ after)) (length before) budget scratch)
+      (atomOf K.Float (S .count - 1) (N.Float (floatOf (S .count) (S .stored)) (S .stored))) v →
+      ReadBack way before after budget scratch v
   stored-read v own bits S b c =
       let e = float-price own bits (written v) S in
-      back-as v (numberCharge (S .count)) (atomOf K.Float (S .count - 1) (N.Float (floatOf (S .count) (S .stored)) (S .stored))) e
-      (float-back way own bits (written v) before after S budget scratch (paid-for (written v) (numberCharge (S .count)) e b)) c
+      back-as v (numberCharge (S .count)) (atomOf K.Float (S .count - 1)
+      (N.Float (floatOf (S .count) (S .stored)) (S .stored))) e
+      (float-back way own bits (written v) before after S budget scratch
+      (paid-for (written v) (numberCharge (S .count)) e b)) c
 
   -- a header alone
-  header-read : (kind : Kind) (w : HeaderOnly kind) (arg : ℕ) (h : arg < 2 ^ 64) → chargeOf kind arg ≡ 0 → atomAfter way (before ++ (headerBytes kind arg ++ after)) kind arg (record { 0 = length before + length (headerBytes kind arg) }) budget scratch ≡ A.Read (record { 0 = length before + length (headerBytes kind arg) }) budget (atomOf kind arg N.None) → ReadBack way before after budget scratch (header kind w arg h)
+  header-read : (kind : Kind) (w : HeaderOnly kind) (arg : ℕ) (h : arg < 2 ^ 64) →
+      chargeOf kind arg ≡ 0 →
+      atomAfter way (before ++ (headerBytes kind arg ++ after)) kind arg
+      (record { 0 = length before + length (headerBytes kind arg) }) budget scratch
+      ≡ A.Read (record { 0 = length before + length (headerBytes kind arg) }) budget (atomOf kind arg N.None) →
+      ReadBack way before after budget scratch (header kind w arg h)
   header-read kind w arg h c r =
       back-as (header kind w arg h) 0 (atomOf kind arg N.None) (price-alone kind arg h ∙ c)
-      (atom-back way kind arg before after budget scratch h ∙ r ∙ ap (λ (n : ℕ). A.Read (record { 0 = length before + length (headerBytes kind arg) }) (record { 0 = n }) (atomOf kind arg N.None)) (less-nothing (budget .0)))
+      (atom-back way kind arg before after budget scratch h ∙ r
+      ∙ ap (λ (n : ℕ). A.Read (record { 0 = length before + length (headerBytes kind arg) }) (record { 0 = n })
+      (atomOf kind arg N.None)) (less-nothing (budget .0)))
       header-carried
 
   -- a header that says all costs nothing
@@ -284,27 +384,52 @@ module _ (way : Way) (before after : List ℕ) (budget : Budget) (scratch : List
       (ap (budgetAfter budget) c ∙ free budget) k)
 
   -- EVERY VALUE
-  pub read-back : (v : Value) → price (written v) ≤ budget .0 → roomFor way v ≤ length scratch → ReadBack way before after budget scratch v
+  pub read-back : (v : Value) →
+      price (written v) ≤ budget .0 →
+      roomFor way v ≤ length scratch →
+      ReadBack way before after budget scratch v
   read-back (number z h) b r =
       let e = signed-price z h in
-      let w = signed-back way z before after budget scratch h (paid-for (signedBytes z) (numberCharge (shortestS z)) e b) in
-      back-as (number z h) (numberCharge (shortestS z)) (atomOf K.Int (shortestS z - 1) (N.Integer (intOf (shortestS z) (twosBits (shortestS z) z)))) e (w .0) (number-carried (w .1))
+      let w = signed-back way z before after budget scratch h
+      (paid-for (signedBytes z) (numberCharge (shortestS z)) e b) in
+      back-as (number z h) (numberCharge (shortestS z))
+      (atomOf K.Int (shortestS z - 1) (N.Integer (intOf (shortestS z) (twosBits (shortestS z) z)))) e (w .0)
+      (number-carried (w .1))
   read-back (natural k h) b r =
       let e = unsigned-price k h in
-      let w = unsigned-back way k before after budget scratch h (paid-for (unsignedBytes k) (numberCharge (shortestU k)) e b) in
-      back-as (natural k h) (numberCharge (shortestU k)) (atomOf K.UInt (shortestU k - 1) (N.Integer (uintOf (shortestU k) k))) e (w .0) (natural-carried (w .1))
+      let w = unsigned-back way k before after budget scratch h
+      (paid-for (unsignedBytes k) (numberCharge (shortestU k)) e b) in
+      back-as (natural k h) (numberCharge (shortestU k))
+      (atomOf K.UInt (shortestU k - 1) (N.Integer (uintOf (shortestU k) k))) e (w .0) (natural-carried (w .1))
   read-back (integer x h) b r = integer-any x h b
   read-back (f32-bits bits h) b r =
       let S = stored-single bits h in
-      stored-read (f32-bits bits h) 4 bits S b (f32-bits-carried (record { same-meaning = meaning-kept 4 bits (written (f32-bits bits h)) (four refl) S; nan-kept = λ s t e. S .nan-kept s t e .1 }))
+      stored-read (f32-bits bits h) 4 bits S b
+      (f32-bits-carried
+      (record {
+        same-meaning = meaning-kept 4 bits (written (f32-bits bits h)) (four refl) S;
+        nan-kept = λ s t e. S .nan-kept s t e .1;
+      }))
   read-back (f64-bits bits h) b r =
       let S = stored-double bits h in
-      stored-read (f64-bits bits h) 8 bits S b (f64-bits-carried (record { same-meaning = meaning-kept 8 bits (written (f64-bits bits h)) (eight refl) S; nan-kept = λ s t e. S .nan-kept s t e .1 }))
-  read-back (f32 x h) b r = stored-read (f32 x h) 4 (floats.valueBits (F.F32 x)) (floats.stored-value (F.F32 x) h) b (f32-carried (floats.value-back (F.F32 x) h))
-  read-back (f64 x h) b r = stored-read (f64 x h) 8 (floats.valueBits (F.F64 x)) (floats.stored-value (F.F64 x) h) b (f64-carried (floats.value-back (F.F64 x) h))
+      stored-read (f64-bits bits h) 8 bits S b
+      (f64-bits-carried
+      (record {
+        same-meaning = meaning-kept 8 bits (written (f64-bits bits h)) (eight refl) S;
+        nan-kept = λ s t e. S .nan-kept s t e .1;
+      }))
+  read-back (f32 x h) b r =
+      stored-read (f32 x h) 4 (floats.ownBits (F.F32 x)) (floats.stored-value (F.F32 x) h) b
+      (f32-carried (floats.value-back (F.F32 x) h))
+  read-back (f64 x h) b r =
+      stored-read (f64 x h) 8 (floats.ownBits (F.F64 x)) (floats.stored-value (F.F64 x) h) b
+      (f64-carried (floats.value-back (F.F64 x) h))
   read-back (special s) b r =
-      back-as (special s) 0 (atomOf K.Special (specialCode s) (specialNucleus s)) (price-alone K.Special (specialCode s) (small s))
-      (special-back way s before after budget scratch ∙ ap (λ (n : ℕ). A.Read (record { 0 = length before + length (written (special s)) }) (record { 0 = n }) (atomOf K.Special (specialCode s) (specialNucleus s))) (less-nothing (budget .0)))
+      back-as (special s) 0 (atomOf K.Special (specialCode s) (specialNucleus s))
+      (price-alone K.Special (specialCode s) (small s))
+      (special-back way s before after budget scratch
+      ∙ ap (λ (n : ℕ). A.Read (record { 0 = length before + length (written (special s)) }) (record { 0 = n })
+      (atomOf K.Special (specialCode s) (specialNucleus s))) (less-nothing (budget .0)))
       special-carried
   read-back (string bytes h) b r =
       let n : ℕ = length bytes in
@@ -313,13 +438,18 @@ module _ (way : Way) (before after : List ℕ) (budget : Budget) (scratch : List
       let left : Budget = record { 0 = budget .0 - n } in
       let e : price (hd ++ bytes) ≡ n = price-headed K.Bytes n bytes h in
       let paid = paid-for (hd ++ bytes) n e b in
-      let joined : before ++ ((hd ++ bytes) ++ after) ≡ before ++ (hd ++ (bytes ++ after)) = ap (λ (l : List ℕ). before ++ l) (append-assoc hd bytes after) in
-      let end : length before + length hd + n ≡ length before + length (hd ++ bytes) = let l = length-append hd bytes in omega arith in
+      let joined : before ++ ((hd ++ bytes) ++ after) ≡ before ++ (hd ++ (bytes ++ after)) =
+      ap (λ (l : List ℕ). before ++ l) (append-assoc hd bytes after) in
+      let end : length before + length hd + n ≡ length before + length (hd ++ bytes) =
+      omega (arith, length-append hd bytes)
+      in
       back-as (string bytes h) n (atomOf K.Bytes n (N.Bytes mark)) e
       (ap (λ (l : List ℕ). atomRead way l (length before) budget scratch) joined
       ∙ bytes-back way before bytes after budget scratch h paid r
       ∙ ap (λ (p : ℕ). A.Read (record { 0 = p }) left (atomOf K.Bytes n (N.Bytes mark))) end)
-      (string-carried (ap (λ (l : List ℕ). markedBytes mark l (atomScratch way l (length before) budget scratch)) joined ∙ bytes-delivered way before bytes after budget scratch h paid r))
-  read-back (header K.Sequence sequence arg h) b r = header-read K.Sequence sequence arg h refl (headed K.Sequence arg refl refl)
+      (string-carried (ap (λ (l : List ℕ). markedBytes mark l (atomScratch way l (length before) budget scratch)) joined
+      ∙ bytes-delivered way before bytes after budget scratch h paid r))
+  read-back (header K.Sequence sequence arg h) b r =
+      header-read K.Sequence sequence arg h refl (headed K.Sequence arg refl refl)
   read-back (header K.Map map arg h) b r = header-read K.Map map arg h refl (headed K.Map arg refl refl)
   read-back (header K.Symbol symbol arg h) b r = header-read K.Symbol symbol arg h refl (headed K.Symbol arg refl refl)

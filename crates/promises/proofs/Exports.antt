@@ -91,8 +91,11 @@ pot-read-atom-one κs a r₁ r₂ s₁ s₂ p q = (p .0 ∙ sym (q .0), p .1 ∙
 pub pot-read-atom-exact-one : One pot-read-atom-exact.ended pot-read-atom-exact-reads.Post (λ κs s. now (s .1 .1 .1 .0))
 pot-read-atom-exact-one κs a r₁ r₂ s₁ s₂ p q = (p .0 ∙ sym (q .0), p .1 ∙ sym (q .1))
 
-pub pot-read-atom-copied-one : One pot-read-atom-copied.ended {X = List ℕ × List ℕ} pot-read-atom-copied-reads.Post (λ κs s. (now (s .1 .1 .1 .1 .0), now (s .1 .1 .1 .0)))
-pot-read-atom-copied-one κs a r₁ r₂ s₁ s₂ p q = (p .0 ∙ sym (q .0), λ i. ((p .1 .0 ∙ sym (q .1 .0)) i, (p .1 .1 ∙ sym (q .1 .1)) i))
+pub pot-read-atom-copied-one :
+    One pot-read-atom-copied.ended {X = List ℕ × List ℕ} pot-read-atom-copied-reads.Post
+    (λ κs s. (now (s .1 .1 .1 .1 .0), now (s .1 .1 .1 .0)))
+pot-read-atom-copied-one κs a r₁ r₂ s₁ s₂ p q =
+    (p .0 ∙ sym (q .0), λ i. ((p .1 .0 ∙ sym (q .1 .0)) i, (p .1 .1 ∙ sym (q .1 .1)) i))
 
 pub pot-skip-atom-one : One pot-skip-atom.ended pot-skip-atom-reads.Post (λ κs s. now (s .1 .1 .1 .0))
 pot-skip-atom-one κs a r₁ r₂ s₁ s₂ p q = (p .0 ∙ sym (q .0), p .1 ∙ sym (q .1))
@@ -106,83 +109,138 @@ pot-tally-one κs a r₁ r₂ s₁ s₂ p q = (p .0 ∙ sym (q .0), p .1 ∙ sym
 pub pot-read-header-one : One pot-read-header.ended pot-read-header-reads.Post (λ κs s. now (s .1 .1 .0))
 pot-read-header-one κs a r₁ r₂ s₁ s₂ p q = (p .0 ∙ sym (q .0), p .1 ∙ sym (q .1))
 
-pub pot-read-header-exact-one : One pot-read-header-exact.ended pot-read-header-exact-reads.Post (λ κs s. now (s .1 .1 .0))
+pub pot-read-header-exact-one :
+    One pot-read-header-exact.ended pot-read-header-exact-reads.Post (λ κs s. now (s .1 .1 .0))
 pot-read-header-exact-one κs a r₁ r₂ s₁ s₂ p q = (p .0 ∙ sym (q .0), p .1 ∙ sym (q .1))
 
-pub pot-write-header-one : One pot-write-header.ended {X = List ℕ × List ℕ} pot-write-header-reads.Post (λ κs s. (now (s .1 .1 .0), now (s .0)))
-pot-write-header-one κs a r₁ r₂ s₁ s₂ p q = (p .0 ∙ sym (q .0), λ i. ((p .1 .0 ∙ sym (q .1 .0)) i, (p .1 .1 ∙ sym (q .1 .1)) i))
+pub pot-write-header-one :
+    One pot-write-header.ended {X = List ℕ × List ℕ} pot-write-header-reads.Post
+    (λ κs s. (now (s .1 .1 .0), now (s .0)))
+pot-write-header-one κs a r₁ r₂ s₁ s₂ p q =
+    (p .0 ∙ sym (q .0), λ i. ((p .1 .0 ∙ sym (q .1 .0)) i, (p .1 .1 ∙ sym (q .1 .1)) i))
 
-pub pot-write-none-one : One pot-write-none.ended {X = List ℕ × List ℕ} pot-write-none-reads.Post (λ κs s. (now (s .1 .0), now (s .0)))
-pot-write-none-one κs a r₁ r₂ s₁ s₂ p q = (p .0 ∙ sym (q .0), λ i. ((p .1 .0 ∙ sym (q .1 .0)) i, (p .1 .1 ∙ sym (q .1 .1)) i))
+pub pot-write-none-one :
+    One pot-write-none.ended {X = List ℕ × List ℕ} pot-write-none-reads.Post (λ κs s. (now (s .1 .0), now (s .0)))
+pot-write-none-one κs a r₁ r₂ s₁ s₂ p q =
+    (p .0 ∙ sym (q .0), λ i. ((p .1 .0 ∙ sym (q .1 .0)) i, (p .1 .1 ∙ sym (q .1 .1)) i))
 
-pub pot-write-unit-one : One pot-write-unit.ended {X = List ℕ × List ℕ} pot-write-unit-reads.Post (λ κs s. (now (s .1 .0), now (s .0)))
-pot-write-unit-one κs a r₁ r₂ s₁ s₂ p q = (p .0 ∙ sym (q .0), λ i. ((p .1 .0 ∙ sym (q .1 .0)) i, (p .1 .1 ∙ sym (q .1 .1)) i))
+pub pot-write-unit-one :
+    One pot-write-unit.ended {X = List ℕ × List ℕ} pot-write-unit-reads.Post (λ κs s. (now (s .1 .0), now (s .0)))
+pot-write-unit-one κs a r₁ r₂ s₁ s₂ p q =
+    (p .0 ∙ sym (q .0), λ i. ((p .1 .0 ∙ sym (q .1 .0)) i, (p .1 .1 ∙ sym (q .1 .1)) i))
 
-pub pot-write-named-one : One pot-write-named.ended {X = List ℕ × List ℕ} pot-write-named-reads.Post (λ κs s. (now (s .1 .0), now (s .0)))
-pot-write-named-one κs a r₁ r₂ s₁ s₂ p q = (p .0 ∙ sym (q .0), λ i. ((p .1 .0 ∙ sym (q .1 .0)) i, (p .1 .1 ∙ sym (q .1 .1)) i))
+pub pot-write-named-one :
+    One pot-write-named.ended {X = List ℕ × List ℕ} pot-write-named-reads.Post (λ κs s. (now (s .1 .0), now (s .0)))
+pot-write-named-one κs a r₁ r₂ s₁ s₂ p q =
+    (p .0 ∙ sym (q .0), λ i. ((p .1 .0 ∙ sym (q .1 .0)) i, (p .1 .1 ∙ sym (q .1 .1)) i))
 
-pub pot-write-i8-one : One pot-write-i8.ended {X = List ℕ × List ℕ} pot-write-i8-reads.Post (λ κs s. (now (s .1 .1 .0), now (s .0)))
-pot-write-i8-one κs a r₁ r₂ s₁ s₂ p q = (p .0 ∙ sym (q .0), λ i. ((p .1 .0 ∙ sym (q .1 .0)) i, (p .1 .1 ∙ sym (q .1 .1)) i))
+pub pot-write-i8-one :
+    One pot-write-i8.ended {X = List ℕ × List ℕ} pot-write-i8-reads.Post (λ κs s. (now (s .1 .1 .0), now (s .0)))
+pot-write-i8-one κs a r₁ r₂ s₁ s₂ p q =
+    (p .0 ∙ sym (q .0), λ i. ((p .1 .0 ∙ sym (q .1 .0)) i, (p .1 .1 ∙ sym (q .1 .1)) i))
 
-pub pot-write-u8-one : One pot-write-u8.ended {X = List ℕ × List ℕ} pot-write-u8-reads.Post (λ κs s. (now (s .1 .1 .0), now (s .0)))
-pot-write-u8-one κs a r₁ r₂ s₁ s₂ p q = (p .0 ∙ sym (q .0), λ i. ((p .1 .0 ∙ sym (q .1 .0)) i, (p .1 .1 ∙ sym (q .1 .1)) i))
+pub pot-write-u8-one :
+    One pot-write-u8.ended {X = List ℕ × List ℕ} pot-write-u8-reads.Post (λ κs s. (now (s .1 .1 .0), now (s .0)))
+pot-write-u8-one κs a r₁ r₂ s₁ s₂ p q =
+    (p .0 ∙ sym (q .0), λ i. ((p .1 .0 ∙ sym (q .1 .0)) i, (p .1 .1 ∙ sym (q .1 .1)) i))
 
-pub pot-write-i16-one : One pot-write-i16.ended {X = List ℕ × List ℕ} pot-write-i16-reads.Post (λ κs s. (now (s .1 .1 .0), now (s .0)))
-pot-write-i16-one κs a r₁ r₂ s₁ s₂ p q = (p .0 ∙ sym (q .0), λ i. ((p .1 .0 ∙ sym (q .1 .0)) i, (p .1 .1 ∙ sym (q .1 .1)) i))
+pub pot-write-i16-one :
+    One pot-write-i16.ended {X = List ℕ × List ℕ} pot-write-i16-reads.Post (λ κs s. (now (s .1 .1 .0), now (s .0)))
+pot-write-i16-one κs a r₁ r₂ s₁ s₂ p q =
+    (p .0 ∙ sym (q .0), λ i. ((p .1 .0 ∙ sym (q .1 .0)) i, (p .1 .1 ∙ sym (q .1 .1)) i))
 
-pub pot-write-u16-one : One pot-write-u16.ended {X = List ℕ × List ℕ} pot-write-u16-reads.Post (λ κs s. (now (s .1 .1 .0), now (s .0)))
-pot-write-u16-one κs a r₁ r₂ s₁ s₂ p q = (p .0 ∙ sym (q .0), λ i. ((p .1 .0 ∙ sym (q .1 .0)) i, (p .1 .1 ∙ sym (q .1 .1)) i))
+pub pot-write-u16-one :
+    One pot-write-u16.ended {X = List ℕ × List ℕ} pot-write-u16-reads.Post (λ κs s. (now (s .1 .1 .0), now (s .0)))
+pot-write-u16-one κs a r₁ r₂ s₁ s₂ p q =
+    (p .0 ∙ sym (q .0), λ i. ((p .1 .0 ∙ sym (q .1 .0)) i, (p .1 .1 ∙ sym (q .1 .1)) i))
 
-pub pot-write-i24-one : One pot-write-i24.ended {X = List ℕ × List ℕ} pot-write-i24-reads.Post (λ κs s. (now (s .1 .1 .0), now (s .0)))
-pot-write-i24-one κs a r₁ r₂ s₁ s₂ p q = (p .0 ∙ sym (q .0), λ i. ((p .1 .0 ∙ sym (q .1 .0)) i, (p .1 .1 ∙ sym (q .1 .1)) i))
+pub pot-write-i24-one :
+    One pot-write-i24.ended {X = List ℕ × List ℕ} pot-write-i24-reads.Post (λ κs s. (now (s .1 .1 .0), now (s .0)))
+pot-write-i24-one κs a r₁ r₂ s₁ s₂ p q =
+    (p .0 ∙ sym (q .0), λ i. ((p .1 .0 ∙ sym (q .1 .0)) i, (p .1 .1 ∙ sym (q .1 .1)) i))
 
-pub pot-write-u24-one : One pot-write-u24.ended {X = List ℕ × List ℕ} pot-write-u24-reads.Post (λ κs s. (now (s .1 .1 .0), now (s .0)))
-pot-write-u24-one κs a r₁ r₂ s₁ s₂ p q = (p .0 ∙ sym (q .0), λ i. ((p .1 .0 ∙ sym (q .1 .0)) i, (p .1 .1 ∙ sym (q .1 .1)) i))
+pub pot-write-u24-one :
+    One pot-write-u24.ended {X = List ℕ × List ℕ} pot-write-u24-reads.Post (λ κs s. (now (s .1 .1 .0), now (s .0)))
+pot-write-u24-one κs a r₁ r₂ s₁ s₂ p q =
+    (p .0 ∙ sym (q .0), λ i. ((p .1 .0 ∙ sym (q .1 .0)) i, (p .1 .1 ∙ sym (q .1 .1)) i))
 
-pub pot-write-i32-one : One pot-write-i32.ended {X = List ℕ × List ℕ} pot-write-i32-reads.Post (λ κs s. (now (s .1 .1 .0), now (s .0)))
-pot-write-i32-one κs a r₁ r₂ s₁ s₂ p q = (p .0 ∙ sym (q .0), λ i. ((p .1 .0 ∙ sym (q .1 .0)) i, (p .1 .1 ∙ sym (q .1 .1)) i))
+pub pot-write-i32-one :
+    One pot-write-i32.ended {X = List ℕ × List ℕ} pot-write-i32-reads.Post (λ κs s. (now (s .1 .1 .0), now (s .0)))
+pot-write-i32-one κs a r₁ r₂ s₁ s₂ p q =
+    (p .0 ∙ sym (q .0), λ i. ((p .1 .0 ∙ sym (q .1 .0)) i, (p .1 .1 ∙ sym (q .1 .1)) i))
 
-pub pot-write-u32-one : One pot-write-u32.ended {X = List ℕ × List ℕ} pot-write-u32-reads.Post (λ κs s. (now (s .1 .1 .0), now (s .0)))
-pot-write-u32-one κs a r₁ r₂ s₁ s₂ p q = (p .0 ∙ sym (q .0), λ i. ((p .1 .0 ∙ sym (q .1 .0)) i, (p .1 .1 ∙ sym (q .1 .1)) i))
+pub pot-write-u32-one :
+    One pot-write-u32.ended {X = List ℕ × List ℕ} pot-write-u32-reads.Post (λ κs s. (now (s .1 .1 .0), now (s .0)))
+pot-write-u32-one κs a r₁ r₂ s₁ s₂ p q =
+    (p .0 ∙ sym (q .0), λ i. ((p .1 .0 ∙ sym (q .1 .0)) i, (p .1 .1 ∙ sym (q .1 .1)) i))
 
-pub pot-write-i48-one : One pot-write-i48.ended {X = List ℕ × List ℕ} pot-write-i48-reads.Post (λ κs s. (now (s .1 .1 .0), now (s .0)))
-pot-write-i48-one κs a r₁ r₂ s₁ s₂ p q = (p .0 ∙ sym (q .0), λ i. ((p .1 .0 ∙ sym (q .1 .0)) i, (p .1 .1 ∙ sym (q .1 .1)) i))
+pub pot-write-i48-one :
+    One pot-write-i48.ended {X = List ℕ × List ℕ} pot-write-i48-reads.Post (λ κs s. (now (s .1 .1 .0), now (s .0)))
+pot-write-i48-one κs a r₁ r₂ s₁ s₂ p q =
+    (p .0 ∙ sym (q .0), λ i. ((p .1 .0 ∙ sym (q .1 .0)) i, (p .1 .1 ∙ sym (q .1 .1)) i))
 
-pub pot-write-u48-one : One pot-write-u48.ended {X = List ℕ × List ℕ} pot-write-u48-reads.Post (λ κs s. (now (s .1 .1 .0), now (s .0)))
-pot-write-u48-one κs a r₁ r₂ s₁ s₂ p q = (p .0 ∙ sym (q .0), λ i. ((p .1 .0 ∙ sym (q .1 .0)) i, (p .1 .1 ∙ sym (q .1 .1)) i))
+pub pot-write-u48-one :
+    One pot-write-u48.ended {X = List ℕ × List ℕ} pot-write-u48-reads.Post (λ κs s. (now (s .1 .1 .0), now (s .0)))
+pot-write-u48-one κs a r₁ r₂ s₁ s₂ p q =
+    (p .0 ∙ sym (q .0), λ i. ((p .1 .0 ∙ sym (q .1 .0)) i, (p .1 .1 ∙ sym (q .1 .1)) i))
 
-pub pot-write-i64-one : One pot-write-i64.ended {X = List ℕ × List ℕ} pot-write-i64-reads.Post (λ κs s. (now (s .1 .1 .0), now (s .0)))
-pot-write-i64-one κs a r₁ r₂ s₁ s₂ p q = (p .0 ∙ sym (q .0), λ i. ((p .1 .0 ∙ sym (q .1 .0)) i, (p .1 .1 ∙ sym (q .1 .1)) i))
+pub pot-write-i64-one :
+    One pot-write-i64.ended {X = List ℕ × List ℕ} pot-write-i64-reads.Post (λ κs s. (now (s .1 .1 .0), now (s .0)))
+pot-write-i64-one κs a r₁ r₂ s₁ s₂ p q =
+    (p .0 ∙ sym (q .0), λ i. ((p .1 .0 ∙ sym (q .1 .0)) i, (p .1 .1 ∙ sym (q .1 .1)) i))
 
-pub pot-write-u64-one : One pot-write-u64.ended {X = List ℕ × List ℕ} pot-write-u64-reads.Post (λ κs s. (now (s .1 .1 .0), now (s .0)))
-pot-write-u64-one κs a r₁ r₂ s₁ s₂ p q = (p .0 ∙ sym (q .0), λ i. ((p .1 .0 ∙ sym (q .1 .0)) i, (p .1 .1 ∙ sym (q .1 .1)) i))
+pub pot-write-u64-one :
+    One pot-write-u64.ended {X = List ℕ × List ℕ} pot-write-u64-reads.Post (λ κs s. (now (s .1 .1 .0), now (s .0)))
+pot-write-u64-one κs a r₁ r₂ s₁ s₂ p q =
+    (p .0 ∙ sym (q .0), λ i. ((p .1 .0 ∙ sym (q .1 .0)) i, (p .1 .1 ∙ sym (q .1 .1)) i))
 
-pub pot-write-i128-one : One pot-write-i128.ended {X = List ℕ × List ℕ} pot-write-i128-reads.Post (λ κs s. (now (s .1 .1 .1 .0), now (s .0)))
-pot-write-i128-one κs a r₁ r₂ s₁ s₂ p q = (p .0 ∙ sym (q .0), λ i. ((p .1 .0 ∙ sym (q .1 .0)) i, (p .1 .1 ∙ sym (q .1 .1)) i))
+pub pot-write-i128-one :
+    One pot-write-i128.ended {X = List ℕ × List ℕ} pot-write-i128-reads.Post (λ κs s. (now (s .1 .1 .1 .0), now (s .0)))
+pot-write-i128-one κs a r₁ r₂ s₁ s₂ p q =
+    (p .0 ∙ sym (q .0), λ i. ((p .1 .0 ∙ sym (q .1 .0)) i, (p .1 .1 ∙ sym (q .1 .1)) i))
 
-pub pot-write-u128-one : One pot-write-u128.ended {X = List ℕ × List ℕ} pot-write-u128-reads.Post (λ κs s. (now (s .1 .1 .1 .0), now (s .0)))
-pot-write-u128-one κs a r₁ r₂ s₁ s₂ p q = (p .0 ∙ sym (q .0), λ i. ((p .1 .0 ∙ sym (q .1 .0)) i, (p .1 .1 ∙ sym (q .1 .1)) i))
+pub pot-write-u128-one :
+    One pot-write-u128.ended {X = List ℕ × List ℕ} pot-write-u128-reads.Post (λ κs s. (now (s .1 .1 .1 .0), now (s .0)))
+pot-write-u128-one κs a r₁ r₂ s₁ s₂ p q =
+    (p .0 ∙ sym (q .0), λ i. ((p .1 .0 ∙ sym (q .1 .0)) i, (p .1 .1 ∙ sym (q .1 .1)) i))
 
-pub pot-write-bytes-one : One pot-write-bytes.ended {X = List ℕ × List ℕ} pot-write-bytes-reads.Post (λ κs s. (now (s .1 .1 .0), now (s .0)))
-pot-write-bytes-one κs a r₁ r₂ s₁ s₂ p q = (p .0 ∙ sym (q .0), λ i. ((p .1 .0 ∙ sym (q .1 .0)) i, (p .1 .1 ∙ sym (q .1 .1)) i))
+pub pot-write-bytes-one :
+    One pot-write-bytes.ended {X = List ℕ × List ℕ} pot-write-bytes-reads.Post (λ κs s. (now (s .1 .1 .0), now (s .0)))
+pot-write-bytes-one κs a r₁ r₂ s₁ s₂ p q =
+    (p .0 ∙ sym (q .0), λ i. ((p .1 .0 ∙ sym (q .1 .0)) i, (p .1 .1 ∙ sym (q .1 .1)) i))
 
-pub pot-write-f32-one : One pot-write-f32.ended {X = List ℕ × List ℕ} pot-write-f32-reads.Post (λ κs s. (now (s .1 .1 .0), now (s .0)))
-pot-write-f32-one κs a r₁ r₂ s₁ s₂ p q = (p .0 ∙ sym (q .0), λ i. ((p .1 .0 ∙ sym (q .1 .0)) i, (p .1 .1 ∙ sym (q .1 .1)) i))
+pub pot-write-f32-one :
+    One pot-write-f32.ended {X = List ℕ × List ℕ} pot-write-f32-reads.Post (λ κs s. (now (s .1 .1 .0), now (s .0)))
+pot-write-f32-one κs a r₁ r₂ s₁ s₂ p q =
+    (p .0 ∙ sym (q .0), λ i. ((p .1 .0 ∙ sym (q .1 .0)) i, (p .1 .1 ∙ sym (q .1 .1)) i))
 
-pub pot-write-f64-one : One pot-write-f64.ended {X = List ℕ × List ℕ} pot-write-f64-reads.Post (λ κs s. (now (s .1 .1 .0), now (s .0)))
-pot-write-f64-one κs a r₁ r₂ s₁ s₂ p q = (p .0 ∙ sym (q .0), λ i. ((p .1 .0 ∙ sym (q .1 .0)) i, (p .1 .1 ∙ sym (q .1 .1)) i))
+pub pot-write-f64-one :
+    One pot-write-f64.ended {X = List ℕ × List ℕ} pot-write-f64-reads.Post (λ κs s. (now (s .1 .1 .0), now (s .0)))
+pot-write-f64-one κs a r₁ r₂ s₁ s₂ p q =
+    (p .0 ∙ sym (q .0), λ i. ((p .1 .0 ∙ sym (q .1 .0)) i, (p .1 .1 ∙ sym (q .1 .1)) i))
 
-pub pot-write-atom-header-one : One pot-write-atom-header.ended {X = List ℕ × List ℕ} pot-write-atom-header-reads.Post (λ κs s. (now (s .1 .1 .1 .0), now (s .0)))
-pot-write-atom-header-one κs a r₁ r₂ s₁ s₂ p q = (p .0 ∙ sym (q .0), λ i. ((p .1 .0 ∙ sym (q .1 .0)) i, (p .1 .1 ∙ sym (q .1 .1)) i))
+pub pot-write-atom-header-one :
+    One pot-write-atom-header.ended {X = List ℕ × List ℕ} pot-write-atom-header-reads.Post
+    (λ κs s. (now (s .1 .1 .1 .0), now (s .0)))
+pot-write-atom-header-one κs a r₁ r₂ s₁ s₂ p q =
+    (p .0 ∙ sym (q .0), λ i. ((p .1 .0 ∙ sym (q .1 .0)) i, (p .1 .1 ∙ sym (q .1 .1)) i))
 
-pub pot-write-special-one : One pot-write-special.ended {X = List ℕ × List ℕ} pot-write-special-reads.Post (λ κs s. (now (s .1 .1 .0), now (s .0)))
-pot-write-special-one κs a r₁ r₂ s₁ s₂ p q = (p .0 ∙ sym (q .0), λ i. ((p .1 .0 ∙ sym (q .1 .0)) i, (p .1 .1 ∙ sym (q .1 .1)) i))
+pub pot-write-special-one :
+    One pot-write-special.ended {X = List ℕ × List ℕ} pot-write-special-reads.Post
+    (λ κs s. (now (s .1 .1 .0), now (s .0)))
+pot-write-special-one κs a r₁ r₂ s₁ s₂ p q =
+    (p .0 ∙ sym (q .0), λ i. ((p .1 .0 ∙ sym (q .1 .0)) i, (p .1 .1 ∙ sym (q .1 .1)) i))
 
-pub pot-write-integer-one : One pot-write-integer.ended {X = List ℕ × List ℕ} pot-write-integer-reads.Post (λ κs s. (now (s .1 .1 .1 .1 .0), now (s .0)))
-pot-write-integer-one κs a r₁ r₂ s₁ s₂ p q = (p .0 ∙ sym (q .0), λ i. ((p .1 .0 ∙ sym (q .1 .0)) i, (p .1 .1 ∙ sym (q .1 .1)) i))
+pub pot-write-integer-one :
+    One pot-write-integer.ended {X = List ℕ × List ℕ} pot-write-integer-reads.Post
+    (λ κs s. (now (s .1 .1 .1 .1 .0), now (s .0)))
+pot-write-integer-one κs a r₁ r₂ s₁ s₂ p q =
+    (p .0 ∙ sym (q .0), λ i. ((p .1 .0 ∙ sym (q .1 .0)) i, (p .1 .1 ∙ sym (q .1 .1)) i))
 
-pub pot-write-bool-one : One pot-write-bool.ended {X = List ℕ × List ℕ} pot-write-bool-reads.Post (λ κs s. (now (s .1 .1 .0), now (s .0)))
-pot-write-bool-one κs a r₁ r₂ s₁ s₂ p q = (p .0 ∙ sym (q .0), λ i. ((p .1 .0 ∙ sym (q .1 .0)) i, (p .1 .1 ∙ sym (q .1 .1)) i))
+pub pot-write-bool-one :
+    One pot-write-bool.ended {X = List ℕ × List ℕ} pot-write-bool-reads.Post (λ κs s. (now (s .1 .1 .0), now (s .0)))
+pot-write-bool-one κs a r₁ r₂ s₁ s₂ p q =
+    (p .0 ∙ sym (q .0), λ i. ((p .1 .0 ∙ sym (q .1 .0)) i, (p .1 .1 ∙ sym (q .1 .1)) i))
 
 pub pot-integer-cast-one : One pot-integer-cast.ended pot-integer-cast-reads.Post (λ κs s. now (s .1 .1 .1 .1 .0))
 pot-integer-cast-one κs a r₁ r₂ s₁ s₂ p q = (p .0 ∙ sym (q .0), p .1 ∙ sym (q .1))

@@ -1,5 +1,5 @@
--- Filled reading. Document 01, "Two ways of reading": "Only a string can run out. On an empty slice it answers None for ever,
--- at place 0."
+-- Filled reading. Document 01, "Two ways of reading": "Only a string can run out. On an empty slice it answers None for
+-- ever, at place 0."
 use mathlib.Core.Path.{_≡_, refl, _∙_, sym, ap}
 use mathlib.Core.Bool.{Bool, true, false, false≢true}
 use mathlib.Core.List.{List, []}
@@ -39,7 +39,8 @@ use Rattle.atom.specs.Atoms.{integerTaken, floatTaken, bodyTaken}
 use Rattle.atom.proofs.Answers.{free}
 
 -- AN EMPTY SLICE answers None at place 0, whatever the place given, and leaves the budget
-pub none-for-ever : (place : ℕ) (budget : Budget) (scratch : List ℕ) → atomRead W.Filled [] place budget scratch ≡ A.Read (record { 0 = 0 }) budget (atomOf K.Special 0 N.None)
+pub none-for-ever : (place : ℕ) (budget : Budget) (scratch : List ℕ) →
+    atomRead W.Filled [] place budget scratch ≡ A.Read (record { 0 = 0 }) budget (atomOf K.Special 0 N.None)
 unfolding atomRead headerFrom headerLength headerArgument laterCount laterValue judged
 none-for-ever place budget scratch =
     let within : placeIn 0 place ≤ 0 = place-within 0 place in
@@ -48,7 +49,8 @@ none-for-ever place budget scratch =
     ∙ rw (free budget) refl
 
 -- a number does not run out: its bytes, and so a number read asked for directly
-integer-body : (s : List ℕ) (at : ℕ) (kind : Kind) (count : ℕ) (p : Place) (w : Bool) → leb (at + count) (length s) ≡ w →
+integer-body : (s : List ℕ) (at : ℕ) (kind : Kind) (count : ℕ) (p : Place) (w : Bool) →
+    leb (at + count) (length s) ≡ w →
     integerBody W.Filled s at kind count ≡ IA.Refused p R.Eof → ⊥
 integer-body s at kind count p true g h =
     let x = sym (integers.body-whole W.Filled s at kind count (leb-true (at + count) (length s) g)) ∙ h in
@@ -111,11 +113,15 @@ judged-end next budget charge body r p b true u k h = absurd (false≢true cc)
 judged-end next budget charge body r p b false true k h = (record { 0 = budget .0 - charge }, h)
 judged-end next budget charge body r p b false false k h = absurd (false≢true (k cc))
 
-integer-end : (kind : Kind) (arg : ℕ) (rest : Budget) (a : IntegerAnswer) (p : Place) (b : Budget) → integerAtom kind arg rest a ≡ A.Refused p b R.Eof → a ≡ IA.Refused p R.Eof
+integer-end : (kind : Kind) (arg : ℕ) (rest : Budget) (a : IntegerAnswer) (p : Place) (b : Budget) →
+    integerAtom kind arg rest a ≡ A.Refused p b R.Eof →
+    a ≡ IA.Refused p R.Eof
 integer-end kind arg rest (IA.Read q v) p b h = absurd (false≢true cc)
 integer-end kind arg rest (IA.Refused q r) p b h = cc
 
-float-end : (arg : ℕ) (rest : Budget) (a : FloatAnswer) (p : Place) (b : Budget) → floatAtom arg rest a ≡ A.Refused p b R.Eof → a ≡ FA.Refused p R.Eof
+float-end : (arg : ℕ) (rest : Budget) (a : FloatAnswer) (p : Place) (b : Budget) →
+    floatAtom arg rest a ≡ A.Refused p b R.Eof →
+    a ≡ FA.Refused p R.Eof
 float-end arg rest (FA.Read q v bits) p b h = absurd (false≢true cc)
 float-end arg rest (FA.Refused q r) p b h = cc
 
@@ -161,13 +167,20 @@ module _ (s : List ℕ) (arg : ℕ) (next : Place) (budget : Budget) (scratch : 
       in
       taken kind (x .0) (x .1)
 
-headed : (s : List ℕ) (budget : Budget) (scratch : List ℕ) (kind : Kind) (arg end : ℕ) (p : Place) (b : Budget) (t : Bool) → atomFrom W.Filled s budget scratch (pick t (H.Read (record { 0 = end }) kind arg) (H.Read (record { 0 = length s }) kind arg)) ≡ A.Refused p b R.Eof → kind ≡ K.Bytes
+headed : (s : List ℕ) (budget : Budget) (scratch : List ℕ) (kind : Kind) (arg end : ℕ) (p : Place) (b : Budget)
+    (t : Bool) →
+    atomFrom W.Filled s budget scratch (pick t (H.Read (record { 0 = end }) kind arg)
+    (H.Read (record { 0 = length s }) kind arg)) ≡ A.Refused p b R.Eof →
+    kind ≡ K.Bytes
 headed s budget scratch kind arg end p b true h = after s arg (record { 0 = end }) budget scratch p b kind h
 headed s budget scratch kind arg end p b false h = after s arg (record { 0 = length s }) budget scratch p b kind h
 
 -- ONLY A STRING CAN RUN OUT: an atom that filled reading refuses with 4 is a string
-pub only-a-string : (s : List ℕ) (place : ℕ) (budget : Budget) (scratch : List ℕ) (p : Place) (b : Budget) → atomRead W.Filled s place budget scratch ≡ A.Refused p b R.Eof → headerKind (drop (placeIn (length s) place) s) ≡ K.Bytes
+pub only-a-string : (s : List ℕ) (place : ℕ) (budget : Budget) (scratch : List ℕ) (p : Place) (b : Budget) →
+    atomRead W.Filled s place budget scratch ≡ A.Refused p b R.Eof →
+    headerKind (drop (placeIn (length s) place) s) ≡ K.Bytes
 unfolding atomRead headerFrom
 only-a-string s place budget scratch p b h =
     let at : ℕ = placeIn (length s) place in
-    headed s budget scratch (headerKind (drop at s)) (headerArgument (drop at s)) (at + headerLength (drop at s)) p b (leb (at + headerLength (drop at s)) (length s)) h
+    headed s budget scratch (headerKind (drop at s)) (headerArgument (drop at s)) (at + headerLength (drop at s)) p b
+    (leb (at + headerLength (drop at s)) (length s)) h

@@ -23,7 +23,8 @@ use Rattle.types.specs.declared.Written.the-variants as W
 use Rattle.types.specs.declared.AsInteger.{AsInteger}
 use Rattle.types.specs.declared.AsInteger.the-variants as In
 use Rattle.words.specs.Layout.{says, saidAtom, saidSkipped, saidRan, saidTally, saidVersion, saidWritten, saidAsInteger}
-use Rattle.promises.specs.Told.{toldAtom, toldSkipped, toldRan, toldTally, toldVersion, toldWritten, toldAsInteger}
+use Rattle.promises.specs.Told.{toldAtom, toldSkipped, toldRan, toldTally, toldVersion, toldWritten}
+use Rattle.promises.specs.Told.{toldAsInteger}
 
 -- one number for an answer, told or laid out
 pub atom-number : (a : AtomAnswer) → saidAtom a .number ≡ toldAtom a .number
@@ -45,6 +46,7 @@ pub tally-number : (a : TallyAnswer) → saidTally a .number ≡ toldTally a .nu
 unfolding saidTally
 tally-number (TA.Done t) = refl
 tally-number (TA.Stopped start r) = refl
+tally-number (TA.Refused r) = refl
 
 pub version-number : (a : VersionAnswer) → saidVersion a .number ≡ toldVersion a .number
 unfolding saidVersion
@@ -62,26 +64,37 @@ integer-number (In.Value x) = refl
 integer-number (In.Refused r) = refl
 
 -- `22 00 00 80` with budget 4: I32 -8388608
-pub integer-said : saidAtom (A.Read (record { 0 = 4 }) (record { 0 = 0 }) (record { kind = K.Int; arg = 2; nucleus = N.Integer (I.I32 (negsuc 8388607)) })) ≡ says 0 4 0 1 2 2 2 (2 ^ 64 - 8388608) (2 ^ 64 - 1)
+pub integer-said :
+    saidAtom (A.Read (record { 0 = 4 }) (record { 0 = 0 })
+    (record { kind = K.Int; arg = 2; nucleus = N.Integer (I.I32 (negsuc 8388607)) }))
+    ≡ says 0 4 0 1 2 2 2 (2 ^ 64 - 8388608) (2 ^ 64 - 1)
 unfolding saidAtom
 integer-said = refl
 
 -- `E2 61 62` with budget 5: a string lent from place 1
-pub string-said : saidAtom (A.Read (record { 0 = 3 }) (record { 0 = 3 }) (record { kind = K.Bytes; arg = 2; nucleus = N.Bytes (record { start = 1; len = 2; lent = true }) })) ≡ says 0 3 3 7 2 4 1 2 1
+pub string-said :
+    saidAtom (A.Read (record { 0 = 3 }) (record { 0 = 3 })
+    (record { kind = K.Bytes; arg = 2; nucleus = N.Bytes (record { start = 1; len = 2; lent = true }) }))
+    ≡ says 0 3 3 7 2 4 1 2 1
 unfolding saidAtom
 string-said = refl
 
 -- `24` with budget 9: refusal 6(Int, 5)
-pub refusal-said : saidAtom (A.Refused (record { 0 = 1 }) (record { 0 = 4 }) (R.UnsupportedByteCount K.Int 5)) ≡ says 6 1 4 1 5 0 0 0 0
+pub refusal-said :
+    saidAtom (A.Refused (record { 0 = 1 }) (record { 0 = 4 }) (R.UnsupportedByteCount K.Int 5)) ≡ says 6 1 4 1 5 0 0 0 0
 unfolding saidAtom
 refusal-said = refl
 
 -- the example file with budget 4: refusal 5 at its second atom
-pub run-said : saidRan (RN.Stopped (record { 0 = 5 }) (record { 0 = 1 }) 1 R.TooManyBytesRead (record { 0 = 4 })) ≡ says 5 5 1 1 4 0 0 0 0
+pub run-said :
+    saidRan (RN.Stopped (record { 0 = 5 }) (record { 0 = 1 }) 1 R.TooManyBytesRead (record { 0 = 4 }))
+    ≡ says 5 5 1 1 4 0 0 0 0
 unfolding saidRan
 run-said = refl
 
 -- its tally
-pub tally-said : saidTally (TA.Done (record { atoms = 5; body = record { 0 = 10 }; charge = 11; letters = 2 })) ≡ says 0 5 10 11 2 0 0 0 0
+pub tally-said :
+    saidTally (TA.Done (record { atoms = 5; body = record { 0 = 10 }; charge = 11; letters = 2 }))
+    ≡ says 0 5 10 11 2 0 0 0 0
 unfolding saidTally
 tally-said = refl

@@ -19,11 +19,15 @@ pub mod Words
 pub mod Recast
 pub mod Exports
 pub mod Laid
+pub mod FloatWords
 pub mod Exactly
 pub mod Filled
+pub mod Held
 pub mod Demand1
 pub mod Entries
-pub mod Stops
+pub mod Runs
+pub mod IntegerCasts
+pub mod Compared
 pub mod Integrals
 pub mod FloatCasts
 pub mod Demand2

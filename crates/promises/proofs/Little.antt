@@ -9,6 +9,8 @@ use Rattle.little.proofs.bits_of_i8 as bits-of-i8
 use Rattle.little.proofs.bits_of_i8.Reads as bits-of-i8-reads
 use Rattle.little.proofs.byte64 as byte64
 use Rattle.little.proofs.byte64.Reads as byte64-reads
+use Rattle.little.proofs.byte_at as byte-at
+use Rattle.little.proofs.byte_at.Reads as byte-at-reads
 use Rattle.little.proofs.filled as filled
 use Rattle.little.proofs.filled.Reads as filled-reads
 use Rattle.little.proofs.i16_of as i16-of
@@ -74,8 +76,11 @@ le6-one κs a r₁ r₂ s₁ s₂ p q = (p .0 ∙ sym (q .0), refl)
 pub le8-one : One le8.ended le8-reads.Post (λ κs s. tt {0})
 le8-one κs a r₁ r₂ s₁ s₂ p q = (p .0 ∙ sym (q .0), refl)
 
+pub byte-at-one : One byte-at.ended byte-at-reads.Post (λ κs s. tt {0})
+byte-at-one κs a r₁ r₂ s₁ s₂ p q = (p .0 ∙ sym (q .0), refl)
+
 pub filled-one : One filled.ended filled-reads.Post (λ κs s. tt {0})
-filled-one κs a r₁ r₂ s₁ s₂ p q = (p .0 ∙ sym (q .0), refl)
+filled-one κs a r₁ r₂ s₁ s₂ p q = (p ∙ sym q, refl)
 
 pub i8-of-one : One i8-of.ended i8-of-reads.Post (λ κs s. tt {0})
 i8-of-one κs a r₁ r₂ s₁ s₂ p q = (p ∙ sym q, refl)

@@ -1,5 +1,6 @@
--- One result for each contract of `slice_reader` over plain slices, of a part its bytes and where they lie. Of the functions
--- over the struct that holds a reference no plain reading of the contract is generated: docs/PROMISES.md, "Exceptions".
+-- One result for each contract of `slice_reader` over plain slices, of a part its bytes and where they lie. Of the
+-- functions over the struct that holds a reference no plain reading of the contract is generated: docs/PROMISES.md,
+-- "Exceptions".
 use Rattle.promises.proofs.One.{One, OnePart}
 use Rattle.slice_reader.proofs.atom_at_start as atom-at-start
 use Rattle.slice_reader.proofs.atom_at_start.Reads as atom-at-start-reads
@@ -67,7 +68,8 @@ len-of-one κs a r₁ r₂ s₁ s₂ p q = (p ∙ sym q, refl)
 pub is-empty-of-one : One is-empty-of.ended is-empty-of-reads.Post (λ κs s. tt {0})
 is-empty-of-one κs a r₁ r₂ s₁ s₂ p q = (p ∙ sym q, refl)
 
-pub rest-after-integer-one : OnePart rest-after-integer.ended rest-after-integer-reads.Post (λ κs r. ptr r) (λ κs r. now r)
+pub rest-after-integer-one :
+    OnePart rest-after-integer.ended rest-after-integer-reads.Post (λ κs r. ptr r) (λ κs r. now r)
 rest-after-integer-one κs a r₁ r₂ s₁ s₂ p q = (p .1 ∙ sym (q .1), p .0 ∙ sym (q .0))
 
 pub rest-after-float-one : OnePart rest-after-float.ended rest-after-float-reads.Post (λ κs r. ptr r) (λ κs r. now r)

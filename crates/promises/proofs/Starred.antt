@@ -12,7 +12,8 @@ use Rattle.types.specs.declared.Way.the-variants as W
 use Rattle.types.specs.declared.Kind.the-variants as K
 use Rattle.types.specs.declared.Integer.the-variants as I
 use Rattle.types.specs.declared.Nucleus.the-variants as N
-use Rattle.header.specs.Header.{headerBytes, laterBytes, headerRead, headerFrom, headerLength, headerArgument, laterCount, laterValue}
+use Rattle.header.specs.Header.{headerBytes, laterBytes, headerRead, headerFrom, headerLength, headerArgument}
+use Rattle.header.specs.Header.{laterCount, laterValue}
 use Rattle.header.specs.Signature.{versionRead, versionFrom, bigEndian, everyBit}
 use Rattle.little.specs.Le.{toLE, fromLE, numberAt}
 use Rattle.little.specs.Twos.{twos, twosBits}
@@ -35,7 +36,9 @@ pub record Starred : Type 0 where
   pub bytes-2048 : headerBytes K.Bytes 2048 ≡ 0xF0 ∷ 0x80 ∷ 0x01 ∷ []
   -- "Header Special, 2^64 - 1: `1F`, eight `FF`, `0F`. `1F` and nine `FF` read the same."
   pub longest : headerBytes K.Special (2 ^ 64 - 1) ≡ 0x1F ∷ (replicate 8 0xFF ++ (0x0F ∷ []))
-  pub nine : toldHeader (headerRead W.ExactLent (0x1F ∷ replicate 9 0xFF) 0) ≡ told 0 (pos 10 ∷ pos (kindCode K.Special) ∷ pos (2 ^ 64 - 1) ∷ [])
+  pub nine :
+      toldHeader (headerRead W.ExactLent (0x1F ∷ replicate 9 0xFF) 0)
+      ≡ told 0 (pos 10 ∷ pos (kindCode K.Special) ∷ pos (2 ^ 64 - 1) ∷ [])
   -- "write_i16(-129) `21 7F FF`; write_i32(-8388608) `22 00 00 80`; 8388608 `23 00 00 80 00`"
   pub i16 : signedBytes (negsuc 128) ≡ 0x21 ∷ 0x7F ∷ 0xFF ∷ []
   pub i32-low : signedBytes (negsuc 8388607) ≡ 0x22 ∷ 0x00 ∷ 0x00 ∷ 0x80 ∷ []
@@ -45,16 +48,25 @@ pub record Starred : Type 0 where
   pub f65504 : f32Bytes 0x477FE000 ≡ 0x61 ∷ 0xFF ∷ 0x7B ∷ []
   pub means-65520 : meaning single 0x477FF000 ≡ finite false (65520 * 2 ^ 1074)
   pub f65520 : f32Bytes 0x477FF000 ≡ 0x63 ∷ 0x00 ∷ 0xF0 ∷ 0x7F ∷ 0x47 ∷ []
-  -- "`22 00 00 80`: budget 3 gives 5, budget 3, place 1; budget 4 reads, 0 left": place, budget; the kind Int with argument 2 holds
-  -- an integer, signed, of 32 bits
-  pub budget-3 : toldAtom (atomRead W.Filled (0x22 ∷ 0x00 ∷ 0x00 ∷ 0x80 ∷ []) 0 (record { 0 = 3 }) []) ≡ told 5 (pos 1 ∷ pos 3 ∷ [])
-  pub budget-4 : toldAtom (atomRead W.Filled (0x22 ∷ 0x00 ∷ 0x00 ∷ 0x80 ∷ []) 0 (record { 0 = 4 }) []) ≡ told 0 (pos 4 ∷ pos 0 ∷ pos (kindCode K.Int) ∷ pos 2 ∷ nucleusTold (N.Integer (I.I32 (negsuc 8388607))))
+  -- "`22 00 00 80`: budget 3 gives 5, budget 3, place 1; budget 4 reads, 0 left": place, budget; the kind Int with
+  -- argument 2 holds an integer, signed, of 32 bits
+  pub budget-3 :
+      toldAtom (atomRead W.Filled (0x22 ∷ 0x00 ∷ 0x00 ∷ 0x80 ∷ []) 0 (record { 0 = 3 }) [])
+      ≡ told 5 (pos 1 ∷ pos 3 ∷ [])
+  pub budget-4 :
+      toldAtom (atomRead W.Filled (0x22 ∷ 0x00 ∷ 0x00 ∷ 0x80 ∷ []) 0 (record { 0 = 4 }) [])
+      ≡ told 0 (pos 4 ∷ pos 0 ∷ pos (kindCode K.Int) ∷ pos 2 ∷ nucleusTold (N.Integer (I.I32 (negsuc 8388607))))
   -- "`24`: budget 9 gives 6(Int, 5), budget 4; budget 4 gives 5"
-  pub width-5 : toldAtom (atomRead W.Filled (0x24 ∷ []) 0 (record { 0 = 9 }) []) ≡ told 6 (pos 1 ∷ pos 4 ∷ pos (kindCode K.Int) ∷ pos 5 ∷ [])
+  pub width-5 :
+      toldAtom (atomRead W.Filled (0x24 ∷ []) 0 (record { 0 = 9 }) [])
+      ≡ told 6 (pos 1 ∷ pos 4 ∷ pos (kindCode K.Int) ∷ pos 5 ∷ [])
   pub charge-5 : toldAtom (atomRead W.Filled (0x24 ∷ []) 0 (record { 0 = 4 }) []) ≡ told 5 (pos 1 ∷ pos 4 ∷ [])
   -- "`41 2C` filled: U16(44), place 2; exact: 4"
-  pub filled-44 : toldAtom (atomRead W.Filled (0x41 ∷ 0x2C ∷ []) 0 (record { 0 = 2 }) []) ≡ told 0 (pos 2 ∷ pos 0 ∷ pos (kindCode K.UInt) ∷ pos 1 ∷ nucleusTold (N.Integer (I.U16 44)))
-  pub exact-44 : toldAtom (atomRead W.ExactLent (0x41 ∷ 0x2C ∷ []) 0 (record { 0 = 2 }) []) ≡ told 4 (pos 2 ∷ pos 0 ∷ [])
+  pub filled-44 :
+      toldAtom (atomRead W.Filled (0x41 ∷ 0x2C ∷ []) 0 (record { 0 = 2 }) [])
+      ≡ told 0 (pos 2 ∷ pos 0 ∷ pos (kindCode K.UInt) ∷ pos 1 ∷ nucleusTold (N.Integer (I.U16 44)))
+  pub exact-44 :
+      toldAtom (atomRead W.ExactLent (0x41 ∷ 0x2C ∷ []) 0 (record { 0 = 2 }) []) ≡ told 4 (pos 2 ∷ pos 0 ∷ [])
   -- "`70 6F 74 01` is taken, version 1"
   pub taken : toldVersion (versionRead W.ExactLent (0x70 ∷ 0x6F ∷ 0x74 ∷ 0x01 ∷ []) 0) ≡ told 0 (pos 4 ∷ pos 1 ∷ [])
   -- "Integer -2^24 passes `as_f32`, 2^24 doesn't"
@@ -62,7 +74,10 @@ pub record Starred : Type 0 where
   pub as-f32-not : toldAsF32 (asF32 (I.I32 (pos 16777216))) ≡ told 8 []
 
 pub starred : Starred
-unfolding headerBytes laterBytes headerFrom headerLength headerArgument laterCount laterValue versionFrom bigEndian everyBit toLE fromLE numberAt twos twosBits holdsS holdsU firstThat shortestS shortestU listed integerBody intOf uintOf signedBytes integerBytes meaning smallests packed narrowed floatBytes f32Bytes cast atomRead judged ofInt size floatMeaning
+unfolding headerBytes laterBytes headerFrom headerLength headerArgument laterCount laterValue versionFrom bigEndian
+    everyBit toLE fromLE numberAt twos twosBits holdsS holdsU firstThat shortestS shortestU listed integerBody intOf
+    uintOf signedBytes integerBytes meaning smallests packed narrowed floatBytes f32Bytes cast atomRead judged ofInt
+    size floatMeaning
 starred = record {
   uint-15 = refl;
   uint-16 = refl;

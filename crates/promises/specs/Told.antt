@@ -1,6 +1,7 @@
--- This paper's number and values for each case of each answer. "If an answer is an enum, a definition tells you this paper's
--- number and values for each of its cases. The promises use that definition." Number 0 says that the answer is no refusal. A
--- float is told by its case: 0, its sign and its magnitude in units of 2^-1074; 1 and the sign of an infinity; 2 of the NaN.
+-- This paper's number and values for each case of each answer. "If an answer is an enum, a definition tells you this
+-- paper's number and values for each of its cases. The promises use that definition." Number 0 says that the answer is
+-- no refusal. A float is told by its case: 0, its sign and its magnitude in units of 2^-1074; 1 and the sign of an
+-- infinity; 2 of the NaN.
 use Prim.Native.Nat.{ℕ}
 use mathlib.Core.List.{List, [], _∷_, _++_, map}
 use lib.IntN.{ℤ, pos}
@@ -10,6 +11,7 @@ use mir.Val.{bits}
 use Rattle.types.specs.Choice.{pick}
 use Rattle.types.specs.Kinds.{kindCode, specialCode}
 use Rattle.types.specs.Refusals.{refusalNumber, refusalData}
+use Rattle.types.specs.declared.Mark.{Mark}
 use Rattle.types.specs.declared.Integer.{Integer}
 use Rattle.types.specs.declared.Float.{Float}
 use Rattle.types.specs.declared.Float.the-variants as F
@@ -78,6 +80,7 @@ use Rattle.types.specs.declared.Skipped.{Skipped}
 use Rattle.types.specs.declared.Skipped.the-variants as SK
 use Rattle.types.specs.declared.Ran.{Ran}
 use Rattle.types.specs.declared.Ran.the-variants as RN
+use Rattle.types.specs.declared.Tallied.{Tallied}
 use Rattle.types.specs.declared.TallyAnswer.{TallyAnswer}
 use Rattle.types.specs.declared.TallyAnswer.the-variants as TA
 
@@ -119,8 +122,11 @@ toldVersion (VA.Read p v) = taken (pos (p .0) ∷ pos v ∷ [])
 toldVersion (VA.Refused p r) = refused (pos (p .0) ∷ []) r
 
 -- a delivery mark as its start, its length, and 1 if lent, 0 if copied
+abbrev pub markTold : Mark → List ℤ
+markTold m = pos (m .start) ∷ pos (m .len) ∷ pos (pick (m .lent) 1 0) ∷ []
+
 abbrev pub toldBytes : BytesAnswer → Told
-toldBytes (BA.Read p m) = taken (pos (p .0) ∷ pos (m .start) ∷ pos (m .len) ∷ pos (pick (m .lent) 1 0) ∷ [])
+toldBytes (BA.Read p m) = taken (pos (p .0) ∷ markTold m)
 toldBytes (BA.Refused p r) = refused (pos (p .0) ∷ []) r
 
 abbrev pub toldRaw : RawAnswer → Told
@@ -137,9 +143,14 @@ abbrev pub toldRan : Ran → Told
 toldRan (RN.Done p b atoms) = taken (pos (p .0) ∷ pos (b .0) ∷ pos atoms ∷ [])
 toldRan (RN.Stopped p b atoms r start) = refused (pos (p .0) ∷ pos (b .0) ∷ pos atoms ∷ pos (start .0) ∷ []) r
 
+-- "It answers atoms, body bytes, charge and letters."
+abbrev pub tallyTold : Tallied → List ℤ
+tallyTold t = pos (t .atoms) ∷ pos (t .body .0) ∷ pos (t .charge) ∷ pos (t .letters) ∷ []
+
 abbrev pub toldTally : TallyAnswer → Told
 toldTally (TA.Stopped start r) = refused (pos (start .0) ∷ []) r
-toldTally (TA.Done t) = taken (pos (t .atoms) ∷ pos (t .body .0) ∷ pos (t .charge) ∷ pos (t .letters) ∷ [])
+toldTally (TA.Refused r) = refused [] r
+toldTally (TA.Done t) = taken (tallyTold t)
 
 -- an integer by its variant, signed or not and so many bits wide, and its value
 abbrev signTold : Sign → ℕ
@@ -169,7 +180,7 @@ nucleusTold N.None = pos 0 ∷ []
 nucleusTold (N.Boolean b) = pos 1 ∷ pos (pick b 1 0) ∷ []
 nucleusTold (N.Integer x) = pos 2 ∷ integerTold x
 nucleusTold (N.Float x stored) = pos 3 ∷ pos stored ∷ floatTold x
-nucleusTold (N.Bytes m) = pos 4 ∷ pos (m .start) ∷ pos (m .len) ∷ pos (pick (m .lent) 1 0) ∷ []
+nucleusTold (N.Bytes m) = pos 4 ∷ markTold m
 nucleusTold N.Unit = pos 5 ∷ []
 nucleusTold N.Named = pos 6 ∷ []
 nucleusTold N.DynamicMap = pos 7 ∷ []
@@ -184,7 +195,8 @@ toldFloat (FA.Read p x stored) = taken (pos (p .0) ∷ pos stored ∷ floatTold 
 toldFloat (FA.Refused p r) = refused (pos (p .0) ∷ []) r
 
 abbrev pub toldAtom : AtomAnswer → Told
-toldAtom (A.Read p b x) = taken (pos (p .0) ∷ pos (b .0) ∷ pos (kindCode (x .kind)) ∷ pos (x .arg) ∷ nucleusTold (x .nucleus))
+toldAtom (A.Read p b x) =
+    taken (pos (p .0) ∷ pos (b .0) ∷ pos (kindCode (x .kind)) ∷ pos (x .arg) ∷ nucleusTold (x .nucleus))
 toldAtom (A.Refused p b r) = refused (pos (p .0) ∷ pos (b .0) ∷ []) r
 
 abbrev pub toldBudget : BudgetAnswer → Told
@@ -255,5 +267,5 @@ toldNarrowed32 N32.None = taken []
 
 -- what the tally program finds of a file
 abbrev pub toldReport : Report → Told
-toldReport (RP.Counted version bytes t) = taken (pos version ∷ pos bytes ∷ pos (t .atoms) ∷ pos (t .body .0) ∷ pos (t .charge) ∷ pos (t .letters) ∷ [])
+toldReport (RP.Counted version bytes t) = taken (pos version ∷ pos bytes ∷ tallyTold t)
 toldReport (RP.Refused r start) = refused (pos (start .0) ∷ []) r

@@ -1,5 +1,5 @@
--- What the value writers can be given, what their contracts say that they write of it, and what it is for an atom to carry it.
--- For demand 2: "what was written reads back as the value written".
+-- What the value writers can be given, what their contracts say that they write of it, and what it is for an atom to
+-- carry it. For demand 2: "what was written reads back as the value written".
 use Prim.Native.Nat.{ℕ, _+_, _-_, _<_, _^_}
 use mathlib.Core.Path.{_≡_}
 use mathlib.Core.Bool.{Bool, true}
@@ -42,8 +42,8 @@ pub data HeaderOnly : Kind → Type 0 where
   map : HeaderOnly K.Map
   symbol : HeaderOnly K.Symbol
 
--- a number that 16 bytes hold, signed or not; an integer whose variant holds its value; a pattern of binary32 or of binary64; a
--- value of either; a special; a string; a header alone
+-- a number that 16 bytes hold, signed or not; an integer whose variant holds its value; a pattern of binary32 or of
+-- binary64; a value of either; a special; a string; a header alone
 pub data Value : Type 0 where
   number : (z : ℤ) → holdsS 16 z ≡ true → Value
   natural : (k : ℕ) → k < 256 ^ 16 → Value
@@ -56,8 +56,8 @@ pub data Value : Type 0 where
   string : (bytes : List ℕ) → length bytes < 2 ^ 64 → Value
   header : (kind : Kind) → HeaderOnly kind → (arg : ℕ) → arg < 2 ^ 64 → Value
 
--- what is written of it, by the definitions that the writers' contracts cite; the bytes of a float's value are those of its pattern,
--- by which `write_f32` and `write_f64` say them
+-- what is written of it, by the definitions that the writers' contracts cite; the bytes of a float's value are those of
+-- its pattern, by which `write_f32` and `write_f64` say them
 abbrev pub written : Value → List ℕ
 written (number z h) = Writers.signedBytes z
 written (natural k h) = Writers.unsignedBytes k
@@ -93,22 +93,51 @@ pub record Means (layout : Layout) (bits : ℕ) (x : Float) (stored : ℕ) : Typ
   pub same-meaning : floatMeans x ≡ plain (meaning layout bits)
   pub nan-kept : (s : Bool) (t : ℕ) → meaning layout bits ≡ nan s t → stored ≡ bits
 
--- An atom of the kind that was written carries the value: an integer its number; a float the meaning of the pattern, or the value;
--- a string's mark names its bytes, in the source or in the scratch; a special and a header are the atom itself.
+-- An atom of the kind that was written carries the value: an integer its number; a float the meaning of the pattern, or
+-- the value; a string's mark names its bytes, in the source or in the scratch; a special and a header are the atom
+-- itself.
 pub data Carries (source scratch : List ℕ) : Atom → Value → Type 0 where
-  number-carried : {arg : ℕ} {n : Integer} {z : ℤ} {h : holdsS 16 z ≡ true} → value n ≡ z → Carries source scratch (atomOf K.Int arg (N.Integer n)) (number z h)
-  natural-carried : {arg : ℕ} {n : Integer} {k : ℕ} {h : k < 256 ^ 16} → value n ≡ pos k → Carries source scratch (atomOf K.UInt arg (N.Integer n)) (natural k h)
-  integer-carried : {arg : ℕ} {n x : Integer} {h : inRange (sign x) (width x) (value x) ≡ true} → value n ≡ value x → Carries source scratch (atomOf (kindOf (sign x)) arg (N.Integer n)) (integer x h)
-  f32-bits-carried : {arg : ℕ} {x : Float} {stored bits : ℕ} {h : bits < 256 ^ 4} → Means single bits x stored → Carries source scratch (atomOf K.Float arg (N.Float x stored)) (f32-bits bits h)
-  f64-bits-carried : {arg : ℕ} {x : Float} {stored bits : ℕ} {h : bits < 256 ^ 8} → Means double bits x stored → Carries source scratch (atomOf K.Float arg (N.Float x stored)) (f64-bits bits h)
-  f32-carried : {arg : ℕ} {y : Float} {stored : ℕ} {x : Ieee.Float} {h : T (Ieee.fits Ieee.binary32 x)} → floatValue y ≡ x → Carries source scratch (atomOf K.Float arg (N.Float y stored)) (f32 x h)
-  f64-carried : {arg : ℕ} {y : Float} {stored : ℕ} {x : Ieee.Float} {h : T (Ieee.fits Ieee.binary64 x)} → floatValue y ≡ x → Carries source scratch (atomOf K.Float arg (N.Float y stored)) (f64 x h)
-  special-carried : {s : Special} → Carries source scratch (atomOf K.Special (specialCode s) (specialNucleus s)) (special s)
-  string-carried : {mark : Mark} {bytes : List ℕ} {h : length bytes < 2 ^ 64} → markedBytes mark source scratch ≡ bytes → Carries source scratch (atomOf K.Bytes (length bytes) (N.Bytes mark)) (string bytes h)
-  header-carried : {kind : Kind} {w : HeaderOnly kind} {arg : ℕ} {h : arg < 2 ^ 64} → Carries source scratch (atomOf kind arg N.None) (header kind w arg h)
+  number-carried : {arg : ℕ} {n : Integer} {z : ℤ} {h : holdsS 16 z ≡ true} →
+      value n ≡ z →
+      Carries source scratch (atomOf K.Int arg (N.Integer n)) (number z h)
+  natural-carried : {arg : ℕ} {n : Integer} {k : ℕ} {h : k < 256 ^ 16} →
+      value n ≡ pos k →
+      Carries source scratch (atomOf K.UInt arg (N.Integer n)) (natural k h)
+  integer-carried : {arg : ℕ} {n x : Integer} {h : inRange (sign x) (width x) (value x) ≡ true} →
+      value n ≡ value x →
+      Carries source scratch (atomOf (kindOf (sign x)) arg (N.Integer n)) (integer x h)
+  f32-bits-carried : {arg : ℕ} {x : Float} {stored bits : ℕ} {h : bits < 256 ^ 4} →
+      Means single bits x stored →
+      Carries source scratch (atomOf K.Float arg (N.Float x stored)) (f32-bits bits h)
+  f64-bits-carried : {arg : ℕ} {x : Float} {stored bits : ℕ} {h : bits < 256 ^ 8} →
+      Means double bits x stored →
+      Carries source scratch (atomOf K.Float arg (N.Float x stored)) (f64-bits bits h)
+  f32-carried : {arg : ℕ} {y : Float} {stored : ℕ} {x : Ieee.Float} {h : T (Ieee.fits Ieee.binary32 x)} →
+      floatValue y ≡ x →
+      Carries source scratch (atomOf K.Float arg (N.Float y stored)) (f32 x h)
+  f64-carried : {arg : ℕ} {y : Float} {stored : ℕ} {x : Ieee.Float} {h : T (Ieee.fits Ieee.binary64 x)} →
+      floatValue y ≡ x →
+      Carries source scratch (atomOf K.Float arg (N.Float y stored)) (f64 x h)
+  special-carried : {s : Special} →
+      Carries source scratch (atomOf K.Special (specialCode s) (specialNucleus s)) (special s)
+  string-carried : {mark : Mark} {bytes : List ℕ} {h : length bytes < 2 ^ 64} →
+      markedBytes mark source scratch ≡ bytes →
+      Carries source scratch (atomOf K.Bytes (length bytes) (N.Bytes mark)) (string bytes h)
+  header-carried : {kind : Kind} {w : HeaderOnly kind} {arg : ℕ} {h : arg < 2 ^ 64} →
+      Carries source scratch (atomOf kind arg N.None) (header kind w arg h)
 
--- WHAT WAS WRITTEN READS BACK, with anything before and after it: just past it, for its price, an atom that carries the value
-pub record ReadBack (way : Way) (before after : List ℕ) (budget : Budget) (scratch : List ℕ) (value : Value) : Type 0 where
-  pub atom : Atom
-  pub is-read : atomRead way (before ++ (written value ++ after)) (length before) budget scratch ≡ A.Read (record { 0 = length before + length (written value) }) (record { 0 = budget .0 - price (written value) }) atom
-  pub carries : Carries (before ++ (written value ++ after)) (atomScratch way (before ++ (written value ++ after)) (length before) budget scratch) atom value
+-- the source, with anything before and after what was written
+abbrev pub around : List ℕ → List ℕ → Value → List ℕ
+around before after value = before ++ (written value ++ after)
+
+-- WHAT WAS WRITTEN READS BACK: just past it, for its price, an atom that carries the value
+pub record ReadBack (way : Way) (before after : List ℕ) (budget : Budget) (scratch : List ℕ) (value : Value) : Type 0
+  where
+    pub atom : Atom
+    pub is-read :
+        atomRead way (around before after value) (length before) budget scratch
+        ≡ A.Read (record { 0 = length before + length (written value) })
+        (record { 0 = budget .0 - price (written value) }) atom
+    pub carries :
+        Carries (around before after value)
+        (atomScratch way (around before after value) (length before) budget scratch) atom value

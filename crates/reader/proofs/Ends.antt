@@ -23,6 +23,7 @@ use Rattle.types.specs.declared.BytesAnswer.{BytesAnswer}
 use Rattle.types.specs.declared.BytesAnswer.the-variants as B
 use Rattle.types.specs.declared.RawAnswer.{RawAnswer}
 use Rattle.types.specs.declared.RawAnswer.the-variants as RA
+use Rattle.lent.specs.Lent.{copiedOver}
 use Rattle.reader.specs.Parts.{partOf, pointerOf, markedBytes, markedPointer}
 use Rattle.reader.specs.Strings.{startOf, lentMark, copiedMark, lentString, copiedString, copiedScratch}
 use Rattle.reader.specs.Strings.{stringAnswer, stringScratch}
@@ -111,8 +112,7 @@ module _ (s : List ℕ) (place at : ℕ) (e : at ≡ startOf s place) (w : at �
         copied-taken = cc (le-ltb (length s) (at + n) (omega arith), le-ltb (length scratch) n room)
 
         pub copied-scratch : (new : List ℕ) →
-            new ≡ take (at + n - at) (drop at s) ++ drop (length (take (at + n - at) (drop at s))) scratch →
-            new ≡ copiedScratch s place n scratch
+            new ≡ copiedOver (take (at + n - at) (drop at s)) scratch → new ≡ copiedScratch s place n scratch
         unfolding copiedScratch
         copied-scratch new k =
             let l : at + n - at ≡ n = omega arith in
@@ -153,9 +153,7 @@ module _ (s : List ℕ) (place at : ℕ) (e : at ≡ startOf s place) (w : at �
     unfolding rawAnswer
     full-answer h = cc (fits (length buffer) h)
 
-    pub full-buffer : (new : List ℕ) →
-        new ≡ take (at + length buffer - at) (drop at s)
-        ++ drop (length (take (at + length buffer - at) (drop at s))) buffer →
+    pub full-buffer : (new : List ℕ) → new ≡ copiedOver (take (at + length buffer - at) (drop at s)) buffer →
         new ≡ rawBuffer s place buffer
     unfolding rawBuffer
     full-buffer new k = let n : at + length buffer - at ≡ length buffer = omega arith in cc n
@@ -173,8 +171,7 @@ module _ (s : List ℕ) (place at : ℕ) (e : at ≡ startOf s place) (w : at �
           let p : at + (length s - at) ≡ length s = omega arith in
           cc (p, rest, length-drop at s)
 
-      pub short-buffer : (new : List ℕ) →
-          new ≡ take (length s - at) (drop at s) ++ drop (length (take (length s - at) (drop at s))) buffer →
+      pub short-buffer : (new : List ℕ) → new ≡ copiedOver (take (length s - at) (drop at s)) buffer →
           new ≡ rawBuffer s place buffer
       unfolding rawBuffer
       short-buffer new k = cc (rest, all)

@@ -36,7 +36,7 @@ use Rattle.types.specs.declared.AsU64.the-variants as AsU64
 use Rattle.cast.specs.Variants.{variant}
 use Rattle.cast.specs.Casts.{cast, castable}
 use Rattle.cast.specs.Froms.{from}
-use Rattle.recast.specs.Recasts.{castTo, recast, fromWords, integerFrom}
+use Rattle.recast.specs.Recasts.{castTo, recast, fromWords, integerOfWords}
 
 picked : {X Y : Type 0} (of : X → Y) (b : Bool) (x y : X) (p q : Y) →
     of x ≡ p → of y ≡ q → of (pick b x y) ≡ pick b p q
@@ -168,6 +168,6 @@ pub ruleset from-ends = (signed-words, unsigned-words, needs)
 
 -- the integer that they make, cast to the variant
 pub words-recast : (n : ℕ) (w : Wide) (x : Integer) (r : AsInteger) →
-    x ≡ fromWords n w → r ≡ recast n x → r ≡ integerFrom n w
-unfolding integerFrom
+    x ≡ fromWords n w → r ≡ recast n x → r ≡ integerOfWords n w
+unfolding integerOfWords
 words-recast n w x r is e = rw is at e

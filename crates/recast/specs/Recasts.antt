@@ -40,8 +40,8 @@ abbrev pub fromWords : ℕ → Wide → Integer
 fromWords n w = pick (ltb n 5) (from signed w128 (joinedSigned w)) (from unsigned w128 (pos (joined w)))
 
 -- the integer of a variant, given by its number and its value's words
-unfoldable pub integerFrom : ℕ → Wide → AsInteger
-integerFrom n w = recast n (fromWords n w)
+unfoldable pub integerOfWords : ℕ → Wide → AsInteger
+integerOfWords n w = recast n (fromWords n w)
 
 -- what is done with an integer that came in; a refused one is answered as such
 abbrev pub ofInteger : {X : Type 0} → (Integer → X) → (Refusal → X) → AsInteger → X

@@ -2,7 +2,7 @@
 // `words.Layout.variantCode`.
 ghost use mathlib.Core.Path.{_≡_};
 ghost use mir.Syntax.{signed, unsigned, w8, w16, w32, w64, w128};
-ghost use Rattle.recast.specs.Recasts.{castTo, recast, fromWords, integerFrom};
+ghost use Rattle.recast.specs.Recasts.{castTo, recast, fromWords, integerOfWords};
 use types::AsI8;
 use types::AsI16;
 use types::AsI32;
@@ -148,7 +148,7 @@ fn from_words(variant: u64, value: Wide) -> Integer
 
 // The integer of a variant's number and its value's words.
 pub fn integer_from(variant: u64, low: u64, high: u64) -> AsInteger
-    ensures { λ r. ⌜ r ≡ integerFrom variant (record { lo = low; hi = high }) ⌝ }
+    ensures { λ r. ⌜ r ≡ integerOfWords variant (record { lo = low; hi = high }) ⌝ }
 {
     let x = from_words(variant, Wide { lo: low, hi: high });
     recast(variant, x)

@@ -51,7 +51,12 @@ module _ (file : List ℕ) (version : ℕ) (answer : TallyAnswer)
         RP.Refused why (record { 0 = 4 + start .0 }) ≡ counted file version (tallyAll (afterSignature file))
     atom-refused = cc found
 
-pub ruleset count-ends = (all-tallied, start-fits, atom-refused, needs)
+  -- not at all
+  pub all-refused : (why : Refusal) → answer ≡ TA.Refused why →
+      RP.Refused why (record { 0 = 0 }) ≡ counted file version (tallyAll (afterSignature file))
+  all-refused why d = cc found
+
+pub ruleset count-ends = (all-tallied, start-fits, atom-refused, all-refused, needs)
 
 -- the file is too long
 pub too-long : (file : List ℕ) → 65_536 < length file → RP.Refused R.TooLong (record { 0 = 0 }) ≡ reportOf file

@@ -28,6 +28,7 @@ use Rattle.dictionary.specs.Runs.{tallyAll, tallyFrom, afterStep, added, nothin
 abbrev pub stopAt : TallyAnswer → ℕ
 stopAt (TA.Done t) = 0
 stopAt (TA.Stopped start r) = start .0
+stopAt (TA.Refused r) = 0
 
 stop-step :
     (s : List ℕ) (at : ℕ) (on : Place → Budget → Place → Bool → TallyAnswer) (k : Skipped) (t : Bool) (d : Tallied) →
@@ -51,7 +52,7 @@ stop-from (suc fuel) s at t =
     (λ p b q f. stop-from fuel s (p .0) (added s t (p .0) (b .0) (q .0) f))
 
 stop-all : (s : List ℕ) (t : Bool) →
-    stopAt (pick t (TA.Stopped (record { 0 = 0 }) R.TooLong) (tallyFrom (suc (length s)) s 0 nothing)) ≤ length s
+    stopAt (pick t (TA.Refused R.TooLong) (tallyFrom (suc (length s)) s 0 nothing)) ≤ length s
 stop-all s true = omega arith
 stop-all s false = stop-from (suc (length s)) s 0 nothing
 

@@ -28,18 +28,19 @@ abbrev pub afterSignature : List ℕ → List ℕ
 afterSignature file = drop signatureLength file
 
 -- "version is the signature's low byte; bytes counts all after the signature; the others are the tally's"; "`at=` where the
--- refused atom starts in the file, signature counted"
+-- refused atom starts in the file, signature counted (0 for signature and length)"
 abbrev pub counted : List ℕ → ℕ → TallyAnswer → Report
 counted file version (TA.Done t) = RP.Counted version (length (afterSignature file)) t
 counted file version (TA.Stopped start r) = RP.Refused r (record { 0 = signatureLength + start .0 })
+counted file version (TA.Refused r) = RP.Refused r (record { 0 = 0 })
 
 -- "0 for signature and length"
-abbrev pub signed : List ℕ → VersionAnswer → Report
-signed file (VA.Read place version) = counted file version (tallyAll (afterSignature file))
-signed file (VA.Refused place r) = RP.Refused r (record { 0 = 0 })
+abbrev pub reportAfter : List ℕ → VersionAnswer → Report
+reportAfter file (VA.Read place version) = counted file version (tallyAll (afterSignature file))
+reportAfter file (VA.Refused place r) = RP.Refused r (record { 0 = 0 })
 
 -- THE REPORT: "judges its whole length, signature counted, then reads the signature exactly"
 unfoldable pub reportOf : List ℕ → Report
 reportOf file =
     pick (ltb mostFileBytes (length file)) (RP.Refused R.TooLong (record { 0 = 0 }))
-    (signed file (versionRead W.ExactLent file 0))
+    (reportAfter file (versionRead W.ExactLent file 0))

@@ -31,6 +31,7 @@ fn count(file: &[u8], version: u8) -> Report
         TallyAnswer::Stopped(start, refusal) => {
             return Report::Refused(refusal, Place(4 + start.0));
         }
+        TallyAnswer::Refused(refusal) => return Report::Refused(refusal, Place(0)),
     }
 }
 

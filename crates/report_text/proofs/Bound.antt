@@ -37,7 +37,7 @@ use Rattle.dictionary.proofs.Letters.{letters-most}
 use Rattle.dictionary.specs.Prices.{priced, Made, Broken}
 use Rattle.dictionary.proofs.Price.{atoms-most, price-body, tally-priced, tally-broken}
 use Rattle.dictionary.proofs.Price as price
-use Rattle.report.specs.Reports.{reportOf, signed, counted, afterSignature, mostFileBytes}
+use Rattle.report.specs.Reports.{reportOf, reportAfter, counted, afterSignature, mostFileBytes}
 use Rattle.report.specs.declared.Report.the-variants as RP
 use Rattle.report_text.specs.Texts.{ascii, decimal, line, tallyText, countedText, refusedText, reportText}
 use Rattle.report_text.proofs.Decimals.{decimal-most}
@@ -122,6 +122,7 @@ letters-within atom w = letters-cases (isString (headerKind atom)) atom (headerL
 abbrev Within : ℕ → TallyAnswer → Type 0
 Within n (TA.Done t) = Small t
 Within n (TA.Stopped start r) = start .0 ≤ n
+Within n (TA.Refused r) = 0 ≤ n
 
 made-small : (s : List ℕ) (m : Made s) → length s ≤ 65_532 → Small (priced (m .atoms))
 made-small s m h =
@@ -138,8 +139,8 @@ broken-within s b =
     in
     omega arith
 
-tallied : (s : List ℕ) → length s ≤ 65_532 → Within (length s) (tallyAll s)
-tallied s h =
+tally-within : (s : List ℕ) → length s ≤ 65_532 → Within (length s) (tallyAll s)
+tally-within s h =
     ⊎-elim
     (λ (m : Made s). subst (Within (length s)) (sym (tally-priced s (m .atoms) (omega arith) (m .wholes)))
     (made-small s m h))
@@ -174,17 +175,18 @@ answered-most file version (TA.Done t) h v w =
     counted-most version (length (afterSignature file)) t v (omega (arith, length-drop 4 file)) w
 answered-most file version (TA.Stopped start r) h v w =
     refused-most r (4 + start .0) (omega (arith, w, length-drop 4 file))
+answered-most file version (TA.Refused r) h v w = refused-most r 0 (omega arith)
 
 signed-most : (file : List ℕ) (a : VersionAnswer) → length file ≤ 65_536 → versionOf a < 256 →
-    length (reportText (signed file a)) ≤ 79
+    length (reportText (reportAfter file a)) ≤ 79
 signed-most file (VA.Read place version) h v =
     answered-most file version (tallyAll (afterSignature file)) h v
-    (tallied (afterSignature file) (omega (arith, length-drop 4 file)))
+    (tally-within (afterSignature file) (omega (arith, length-drop 4 file)))
 signed-most file (VA.Refused place r) h v = refused-most r 0 (omega arith)
 
 judged-most : (file : List ℕ) (t : Bool) → ltb mostFileBytes (length file) ≡ t →
-    length
-    (reportText (pick t (RP.Refused R.TooLong (record { 0 = 0 })) (signed file (versionRead W.ExactLent file 0)))) ≤ 79
+    length (reportText
+    (pick t (RP.Refused R.TooLong (record { 0 = 0 })) (reportAfter file (versionRead W.ExactLent file 0)))) ≤ 79
 judged-most file true e = refused-most R.TooLong 0 (omega arith)
 judged-most file false e =
     signed-most file (versionRead W.ExactLent file 0) (ltb-false mostFileBytes (length file) e) (version-small file)

@@ -14,7 +14,7 @@ use Rattle.types.specs.declared.Refusal.{Refusal}
 use Rattle.types.specs.declared.Tallied.{Tallied}
 use Rattle.types.specs.declared.Written.{Written}
 use Rattle.io.specs.Digits.{digits, Fewest}
-use Rattle.lent.specs.Lent.{writtenAnswer, writtenContent}
+use Rattle.lent.specs.Lent.{writtenAnswer, writtenContent, copiedOver}
 use Rattle.report.specs.Reports.{reportOf}
 use Rattle.report.specs.declared.Report.{Report}
 use Rattle.report.specs.declared.Report.the-variants as RP
@@ -23,8 +23,9 @@ use Rattle.report_text.proofs.Decimals.{decimal-most, fewest}
 
 -- bytes that `lent::copy_in` put behind the first `at`
 pub appended : (old bytes filled : List ℕ) (at : ℕ) → at + length bytes ≤ length old →
-    filled ≡ bytes ++ drop (length bytes) (take (length old - at) (drop at old)) →
+    filled ≡ copiedOver bytes (take (length old - at) (drop at old)) →
     take (at + length bytes) (take at old ++ (filled ++ drop (length old - at) (drop at old))) ≡ take at old ++ bytes
+unfolding copiedOver
 appended old bytes filled at h e =
     let front : List ℕ = take at old ++ bytes in
     let kept : List ℕ = drop (length bytes) (take (length old - at) (drop at old)) in

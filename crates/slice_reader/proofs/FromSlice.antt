@@ -53,35 +53,35 @@ slice-type = sliceTy (tyRef (named 0) imm (tyInt w8))
 abbrev stay-slice : Stay slice yes
 stay-slice = stay-none-slice (0 ∷ []) tt (plain (λ _. u8)) yes
 
-abbrev making : Ended
+abbrev pub making : Ended
 making = record { signature = record { lifetimes = 1; outlives = []; params = slice ∷ []; result = plain Reader }; kept = (yes, tt) }
 
 abbrev pub made : Finding making
 made κs a r = r .«data» ≡ a .0
 
-abbrev makes-reader : {M : Type 1} (𝓤 : URA M) → Clauses 𝓤 making
+abbrev pub makes-reader : {M : Type 1} (𝓤 : URA M) → Clauses 𝓤 making
 makes-reader = finds making made
 
 module _ {M : Type 1} (𝓤 : URA M) (H : Heap 𝓤) (A : Atoms 𝓤) where
-  abbrev New : Contract 𝓤
+  abbrev pub New : Contract 𝓤
   New = tripleOf 𝓤 H A (making .signature) (closing 𝓤 H A making (makes-reader 𝓤))
 
   module _ (W : Given 𝓤 H A) (κ : Lft) (q : Share) (s : RefT (List ℕ)) where
     -- the machine value that s has, and what s owns
-    abbrev v : Val
+    abbrev pub v : Val
     v = sliceVal (s .ptr) (length (s .now))
 
     abbrev R : RattleType
     R = ShrSlice (named 0) κ u8
 
-    abbrev Own : Fml
+    abbrev pub Own : Fml
     Own = R .own s (v ∷ [])
 
     -- the call of `from`: what it asks, beside what is kept, and what is known of its result
-    abbrev to-new : New .Ghost
+    abbrev pub to-new : New .Ghost
     to-new = (((κ, tt), (q, tt), tt, (s, tt), (v ∷ [], tt)), tt)
 
-    goes-new : (kept : Fml) → ent 𝓤 (⋆ 𝓤 H A ((‵ (flft κ q) ⊛ ‵ ftrue) ∷ ‵ (fsep Own kept) ∷ [])) (sep 𝓤 (New .pre to-new) (sep 𝓤 (sem 𝓤 H A Own) (sem 𝓤 H A kept)))
+    pub goes-new : (kept : Fml) → ent 𝓤 (⋆ 𝓤 H A ((‵ (flft κ q) ⊛ ‵ ftrue) ∷ ‵ (fsep Own kept) ∷ [])) (sep 𝓤 (New .pre to-new) (sep 𝓤 (sem 𝓤 H A Own) (sem 𝓤 H A kept)))
     goes-new kept =
         qed W ((‵ (flft κ q) ⊛ ‵ ftrue) ∷ ‵ (fsep Own kept) ∷ []) ∵
         move ! (1 ∷ []) $ fsplit ! $ use1 W (‵ Own ⊛ ‵ Own) (shr-slice-copy 𝓤 H A W (named 0) κ u8 .twice s (v ∷ [])) $ split ! $
@@ -111,7 +111,7 @@ module _ (Q : Param) (f : List ℕ → Q .type .Denot) where
   }
 
   module _ {M : Type 1} (𝓤 : URA M) (H : Heap 𝓤) (A : Atoms 𝓤) where
-    abbrev Next : Contract 𝓤
+    abbrev pub Next : Contract 𝓤
     Next = tripleOf 𝓤 H A (asking Q f .signature) (closing 𝓤 H A (asking Q f) (asks Q f 𝓤))
 
     module _ (W : Given 𝓤 H A) where
@@ -188,7 +188,7 @@ module _ (X : Beside) (Ps : List Param) where
     left-is κs ps s x z w e f g = rw (← e, ← f .0, g) (f .1)
 
     module _ (H : Heap 𝓤) (A : Atoms 𝓤) where
-      abbrev Read : Contract 𝓤
+      abbrev pub Read : Contract 𝓤
       Read = tripleOf 𝓤 H A (reading X Ps .signature) (closing 𝓤 H A (reading X Ps) (reads X Ps given place 𝓤))
 
       abbrev Rest : Contract 𝓤

@@ -7,5 +7,6 @@ pub mod RestOf
 pub mod Asking
 pub mod FromSlice
 pub mod Leaves
+pub mod Holding
 pub mod Heard
 pub mod One

@@ -1,9 +1,17 @@
 // The reader that holds the slice still to be read, over the finished core. Document 01, "Two ways of reading" and "Port
 // order and changes of shape", and `SliceReader` of reader.rs. It reads filled: a number byte past the end reads as zero,
 // and only a string can run out.
-// The functions over the reader are few and thin: each takes it apart and calls a function on the plain slice. An answer
-// that carries the reader on is a struct with the answer beside the reader, since an enum can't hold a reference. At the
-// end of the file stand functions with plain parameters, for callers that have a slice.
+// What is for whom:
+// - `SliceReader` and its functions are the original's reader, for a caller that holds one and goes on with it. An answer
+//   that carries the reader on is a struct with the answer beside the reader, since an enum can't hold a reference. Who
+//   calls them has a reader in a local, and so a proof by hand: the steps of it are `proofs/Holding.antt`, and
+//   `held_over` of `slice_reader_main` is such a caller. Each function is thin: it takes the reader apart and calls
+//   what stands on the plain slice.
+// - `left_from`, and of each read the one at a slice's start and what it leaves (`integer_at_start`, `left_by_integer`),
+//   do the work. They are for the functions over the reader, and for a caller that carries the slice itself.
+// - The six functions at the end, `len_of` to `rest_after_atom`, make a reader of a slice, let it do one thing and hand
+//   back what is plain of it. They are for a caller that wants the reader's own word without a proof by hand: the replay,
+//   whose loop over a sequence of reads goes by them, so that the reader's functions are held to the original's.
 ghost use mathlib.Core.Path.{_≡_};
 ghost use lib.Dec.{eqb};
 ghost use lib.ListN.{length};

@@ -1,5 +1,5 @@
--- The number that an integer carries, the one home of it: casts, reads and writes go by it. Document 01, "Bytes of an atom" and
--- "Casts". `toZ` and `ofZ` are the machine's own two's complement, of 128 bits here.
+-- The number that an integer carries, the one home of it: casts, reads and writes go by it. Document 01, "Bytes of an
+-- atom" and "Casts". `toZ` and `ofZ` are the machine's own two's complement, of 128 bits here.
 use Prim.Native.Nat.{ℕ, _+_, _*_, _/_, _%_, _^_}
 use lib.IntN.{ℤ, pos}
 use mir.Syntax.{w128}

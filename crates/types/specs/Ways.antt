@@ -16,7 +16,7 @@ exact W.ExactCopied = true
 abbrev pub unnamedWay : Way
 unnamedWay = W.Filled
 
--- A header or a number that takes the bytes up to `end`, in a source of that length. Filled: "a header byte or number byte
--- past the end reads as zero and the place stops at the end"; exact: "anything past the end is refused".
+-- A header or a number that takes the bytes up to `end`, in a source of that length. Filled: "a header byte or number
+-- byte past the end reads as zero and the place stops at the end"; exact: "anything past the end is refused".
 abbrev pub upTo : {X : Type 0} → Way → ℕ → ℕ → (ℕ → X) → X → X
 upTo way length end taken eof = pick (leb end length) (taken end) (pick (exact way) eof (taken length))

@@ -210,10 +210,11 @@ pub struct Tallied {
     pub letters: u64,
 }
 
-// What a tally answers; of a refused atom, the place where it starts.
+// What a tally answers: of a refused atom, the place where it starts; of an input that is too long, the refusal alone.
 pub enum TallyAnswer {
     Stopped(Place, Refusal),
     Done(Tallied),
+    Refused(Refusal),
 }
 
 pub enum AsI8 {

@@ -27,7 +27,7 @@ pub struct FloatField {
 }
 
 // A value in two's complement of 128 bits: its own bits, and ones above them where it is negative.
-fn signed(bits: u64, sign: u64, above: u64) -> Wide {
+fn sign_extended(bits: u64, sign: u64, above: u64) -> Wide {
     if bits < sign {
         return Wide { lo: bits, hi: 0 };
     }
@@ -38,15 +38,15 @@ fn signed(bits: u64, sign: u64, above: u64) -> Wide {
 }
 
 pub fn of_i8(value: i8) -> Wide {
-    signed(little::bits_of_i8(value), 0x80, 0xFFFF_FFFF_FFFF_FF00)
+    sign_extended(little::bits_of_i8(value), 0x80, 0xFFFF_FFFF_FFFF_FF00)
 }
 
 pub fn of_i16(value: i16) -> Wide {
-    signed(little::bits_of_i16(value), 0x8000, 0xFFFF_FFFF_FFFF_0000)
+    sign_extended(little::bits_of_i16(value), 0x8000, 0xFFFF_FFFF_FFFF_0000)
 }
 
 pub fn of_i32(value: i32) -> Wide {
-    signed(
+    sign_extended(
         little::bits_of_i32(value),
         0x8000_0000,
         0xFFFF_FFFF_0000_0000,
@@ -54,7 +54,7 @@ pub fn of_i32(value: i32) -> Wide {
 }
 
 pub fn of_i64(value: i64) -> Wide {
-    signed(little::bits_of_i64(value), 0x8000_0000_0000_0000, 0)
+    sign_extended(little::bits_of_i64(value), 0x8000_0000_0000_0000, 0)
 }
 
 pub fn unsigned(value: u64) -> Wide {

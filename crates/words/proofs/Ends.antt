@@ -12,7 +12,7 @@ use Rattle.types.specs.declared.Integer.{Integer}
 use Rattle.words.specs.declared.IntegerWords.{IntegerWords}
 use Rattle.words.specs.declared.NucleusWords.{NucleusWords}
 use Rattle.types.specs.declared.Refusal.the-variants as R
-use Rattle.binary.specs.Conversions.{Narrowed, exact, lost, answer32}
+use Rattle.binary.specs.Conversions.{Narrowed, kept, lost, answer32}
 use Rattle.binary.specs.declared.Narrowed32.{Narrowed32}
 use Rattle.binary.specs.declared.Narrowed32.the-variants as N
 use Rattle.words.specs.Layout.{Said, says, numberOf, wordsOf, variantCode, integerWords}
@@ -77,7 +77,7 @@ saidPattern N.None = saidRefused R.ImpreciseCastWouldLoseData
 
 same-narrowed : (n : Narrowed) → saidPattern (answer32 n) ≡ saidNarrowed n
 unfolding saidNarrowed
-same-narrowed (exact q) = refl
+same-narrowed (kept q) = refl
 same-narrowed lost = refl
 
 module _ (n : Narrowed) (told case : Narrowed32) (e : told ≡ answer32 n) (is : told ≡ case) (old : List ℕ) where

@@ -38,7 +38,7 @@ use Rattle.types.specs.declared.AsF32.{AsF32}
 use Rattle.types.specs.declared.AsF32.the-variants as F32
 use Rattle.types.specs.declared.AsF64.{AsF64}
 use Rattle.types.specs.declared.AsF64.the-variants as F64
-use Rattle.binary.specs.Conversions.{Narrowed, exact, lost}
+use Rattle.binary.specs.Conversions.{Narrowed, kept, lost}
 use Rattle.types.specs.declared.Refusal.the-variants as R
 use Rattle.binary.specs.Formats.{half, single}
 use Rattle.binary.specs.Conversions.{widened}
@@ -133,10 +133,12 @@ unfoldable pub saidRan : Ran → Said
 saidRan (RN.Done p b atoms) = says 0 (p .0) (b .0) atoms 0 0 0 0 0
 saidRan (RN.Stopped p b atoms r start) = says (refusalNumber r) (p .0) (b .0) atoms (start .0) (datum 0 r) (datum 1 r) 0 0
 
--- a tally: atoms, body bytes, charge, letters; or where the refused atom starts, and the refusal's data
+-- a tally: atoms, body bytes, charge, letters; or where the refused atom starts, 0 where the input is refused as a whole,
+-- and the refusal's data
 unfoldable pub saidTally : TallyAnswer → Said
 saidTally (TA.Done t) = says 0 (t .atoms) (t .body .0) (t .charge) (t .letters) 0 0 0 0
 saidTally (TA.Stopped start r) = says (refusalNumber r) (start .0) (datum 0 r) (datum 1 r) 0 0 0 0 0
+saidTally (TA.Refused r) = says (refusalNumber r) 0 (datum 0 r) (datum 1 r) 0 0 0 0 0
 
 -- a signature: place and version, or place
 unfoldable pub saidVersion : VersionAnswer → Said
@@ -181,5 +183,5 @@ saidAsF64 (F64.Refused r) = saidRefused r
 
 -- "`as_f32` of an F64 needs an equal value": its bits, or refusal 8
 unfoldable pub saidNarrowed : Narrowed → Said
-saidNarrowed (exact q) = saidWord q
+saidNarrowed (kept q) = saidWord q
 saidNarrowed lost = saidRefused R.ImpreciseCastWouldLoseData

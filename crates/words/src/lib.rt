@@ -331,6 +331,11 @@ pub fn say_tally(words: &mut [u64], answer: TallyAnswer) -> u64
                 0,
             );
         }
+        TallyAnswer::Refused(refusal) => {
+            let first = first_datum(refusal);
+            let second = second_datum(refusal);
+            return say(words, refusal.number(), 0, first, second, 0, 0, 0, 0, 0);
+        }
     }
 }
 

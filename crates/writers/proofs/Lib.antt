@@ -3,4 +3,3 @@ pub mod Wrote
 pub mod Ends
 pub mod Words
 pub mod Others
-pub mod Copies

@@ -15,7 +15,7 @@ use Rattle.types.specs.declared.Special.the-variants as S
 use Rattle.types.specs.declared.Integer.{Integer}
 use Rattle.types.specs.declared.Refusal.{Refusal}
 use Rattle.types.specs.declared.Written.the-variants as W
-use Rattle.lent.specs.Lent.{writtenAnswer, writtenContent}
+use Rattle.lent.specs.Lent.{writtenAnswer, writtenContent, copiedOver}
 use Rattle.lent.proofs.Stores.{headed, answer-short, content-short, answer-room, content-room}
 use Rattle.header.specs.Header.{headerBytes}
 use Rattle.writers.specs.Bytes.{valueBytes, specialBytes, truth, bytesBytes}
@@ -64,13 +64,14 @@ module _ (value old : List ℕ) (head : ℕ) (h : (kind : Kind) → head ≡ len
     string-counted = ap W.Count whole ∙ sym (answer-room (bytesBytes value) old (rw (← whole) room))
 
     pub string-filled : (begun part : List ℕ) → begun ≡ writtenContent (headerBytes K.Bytes (length value)) old →
-        part ≡ value ++ drop (length value) (take (length begun - head) (drop head begun)) →
+        part ≡ copiedOver value (take (length begun - head) (drop head begun)) →
         take head begun ++ (part ++ drop (length begun - head) (drop head begun))
         ≡ writtenContent (bytesBytes value) old
+    unfolding copiedOver
     string-filled begun part is filled =
         let header : List ℕ = headerBytes K.Bytes (length value) in
         let e : head ≡ length header = h K.Bytes in
-        let front : begun ≡ header ++ drop (length header) old = is ∙ content-room header old (omega arith) in
+        let front : begun ≡ copiedOver header old = is ∙ content-room header old (omega arith) in
         rw e (headed header value old begun part (rw e at room) front (rw e at filled)
         ∙ sym (content-room (header ++ value) old (rw (← whole) room)))
 

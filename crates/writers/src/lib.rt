@@ -2,15 +2,11 @@
 // number"; format.rs, `write_special` to `write_bytes`, and `Integer::write_to`. A writer of a number tries the next
 // smaller one first, so that it writes the smallest count that holds the value.
 ghost use mathlib.Core.Path.{_≡_};
-ghost use mathlib.Core.List.{_++_};
-ghost use Prim.Native.Nat.{_≤_, _+_};
-ghost use lib.ListN.{length, drop};
 ghost use lib.Signed.{mag};
 ghost use Rattle.types.specs.declared.Special.the-variants.{None, Unit, Named};
 ghost use Rattle.lent.specs.Lent.{writtenAnswer, writtenContent};
 ghost use Rattle.little.specs.Counts.{holdsU, holdsS};
 ghost use Rattle.types.specs.Values.{joined, joinedSigned};
-ghost use Rattle.writers.specs.Copies.{Copied};
 ghost use Rattle.writers.specs.Bytes.{signedBytes, unsignedBytes, valueBytes, specialBytes, truth, bytesBytes, heldAnswer, heldContent};
 use types::Integer;
 use types::Kind;
@@ -271,84 +267,6 @@ pub fn write_to(out: &mut [u8], integer: Integer) -> Written
     }
 }
 
-// Copies four bytes, all read before any is written.
-fn copy_four(out: &mut [u8], source: &[u8], i: usize)
-    requires { ⌜ (i + 4 ≤ length (now source)) × (length (now source) ≤ length (now out)) ⌝ }
-    ensures { λ r. ⌜ Copied (now (source .entry)) i (i + 4) (now (out .entry)) (now (out .exit)) ⌝ }
-{
-    let first = source[i];
-    let second = source[i + 1];
-    let third = source[i + 2];
-    let fourth = source[i + 3];
-    out[i] = first;
-    out[i + 1] = second;
-    out[i + 2] = third;
-    out[i + 3] = fourth;
-}
-
-// Copies sixteen bytes, by way of a block of its own: no other buffer can lie over that, so they go as one.
-fn copy_sixteen(out: &mut [u8], source: &[u8], i: usize)
-    requires { ⌜ (i + 16 ≤ length (now source)) × (length (now source) ≤ length (now out)) ⌝ }
-    ensures { λ r. ⌜ Copied (now (source .entry)) i (i + 16) (now (out .entry)) (now (out .exit)) ⌝ }
-{
-    let mut block = [0u8; 16];
-    lent::copy_in(&mut block, &source[i..i + 16]);
-    lent::copy_in(&mut out[i..i + 16], &block);
-}
-
-// Copies what is left of a string from a place on, sixteen bytes at a time, the last sixteen over those before them.
-fn copy_rest(out: &mut [u8], source: &[u8], from: usize)
-    requires { ⌜ (16 ≤ length (now source)) × (length (now source) ≤ length (now out)) × (from ≤ length (now source)) ⌝ }
-    ensures { λ r. ⌜ Copied (now (source .entry)) from (length (now (source .entry))) (now (out .entry)) (now (out .exit)) ⌝ }
-{
-    let mut i = from;
-    while 16 < source.len() - i {
-        copy_sixteen(out, source, i);
-        i += 16;
-    }
-    copy_sixteen(out, source, source.len() - 16);
-}
-
-// Copies a string of 16 bytes or more that has its room, in blocks: one of a length known beforehand is compiled without a
-// loop.
-fn copy_blocks(out: &mut [u8], source: &[u8])
-    requires { ⌜ (16 ≤ length (now source)) × (length (now source) ≤ length (now out)) ⌝ }
-    ensures { λ r. ⌜ now (out .exit) ≡ now (source .entry) ++ drop (length (now (source .entry))) (now (out .entry)) ⌝ }
-{
-    let mut i = 0;
-    while 128 <= source.len() - i {
-        lent::copy_in(&mut out[i..i + 128], &source[i..i + 128]);
-        i += 128;
-    }
-    copy_rest(out, source, i);
-}
-
-// Copies a string that has its room. A short one goes four bytes at a time, the last four over those before them, so that
-// few branches hang on its length; a long one goes in blocks.
-fn copy(out: &mut [u8], source: &[u8])
-    requires { ⌜ length (now source) ≤ length (now out) ⌝ }
-    ensures { λ r. ⌜ now (out .exit) ≡ now (source .entry) ++ drop (length (now (source .entry))) (now (out .entry)) ⌝ }
-{
-    let size = source.len();
-    if size < 4 {
-        lent::copy_in(out, source);
-        return;
-    }
-    if size < 9 {
-        copy_four(out, source, 0);
-        copy_four(out, source, size - 4);
-        return;
-    }
-    if size < 17 {
-        copy_four(out, source, 0);
-        copy_four(out, source, 4);
-        copy_four(out, source, size - 8);
-        copy_four(out, source, size - 4);
-        return;
-    }
-    copy_blocks(out, source);
-}
-
 // Writes a string: its header, then its bytes. The room of both is judged before either is written.
 pub fn write_bytes(out: &mut [u8], value: &[u8]) -> Written
     ensures { λ r. ⌜ r ≡ writtenAnswer (bytesBytes (now (value .entry))) (now (out .entry)) ⌝ }
@@ -360,6 +278,6 @@ pub fn write_bytes(out: &mut [u8], value: &[u8]) -> Written
         return Written::Refused(Refusal::no_room(needed));
     }
     header::write_atom_header(out, Kind::Bytes, value.len() as u64);
-    copy(&mut out[head..], value);
+    lent::copy_in(&mut out[head..], value);
     Written::Count(needed)
 }

@@ -41,7 +41,7 @@ impl Oracle {
 
     fn tally(&mut self, source: &[u8]) -> Answer<'static> {
         if source.len() > LONGEST {
-            return Answer::Given(After::Place(0), Err(Refusal::TooLong));
+            return Answer::Given(After::Nothing, Err(Refusal::TooLong));
         }
         let (mut start, mut atoms, mut body, mut charge, mut letters) = (0, 0, 0, 0, 0);
         while start < source.len() as u64 {

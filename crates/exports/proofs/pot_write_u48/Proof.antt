@@ -1,5 +1,5 @@
 -- `exports::pot_write_u48` meets its contract: with room for the words, the write is done and its answer said.
-use Rattle.exports.proofs.Ends.{write-ends}
+use Rattle.exports.proofs.Ends.{held-ends}
 use Rattle.exports.proofs.pot_write_u48.Statement.{statement}
 use Rattle.exports.proofs.pot_write_u48.Tie as tie
 
@@ -7,6 +7,6 @@ pub pot-write-u48-spec : {M : Type 1} → statement M
 pot-write-u48-spec =
     tie.close
     (tie.spec
-    (λ c. (search write-ends, (search write-ends, search write-ends))) (λ c κs. search write-ends)
-    (λ c κs. search write-ends) (λ c. search write-ends) (λ c. search write-ends)
-    (λ c. (search write-ends, (search write-ends, search write-ends))))
+    (λ c κs. search held-ends) (λ c. search held-ends) (λ c. search held-ends) (λ c. search held-ends)
+    (λ c κs. search held-ends) (λ c κs. search held-ends) (λ c. search held-ends) (λ c. search held-ends)
+    (λ c. (search held-ends, (search held-ends, search held-ends))))

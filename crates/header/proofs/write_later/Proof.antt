@@ -15,4 +15,4 @@ write-later-spec =
     (tie.spec
     Inv-loop μ-loop (λ c. search write-laws) (λ c. search write-laws) (λ c. search write-laws) (λ c. search write-laws)
     (λ c. search write-laws) (λ c. search write-laws) (λ c. search write-laws) (λ c. search write-laws)
-    (λ c. search write-laws) (λ c. search write-laws) (λ c. search write-laws))
+    (λ c. search write-laws) (λ c. search write-laws) (λ c. search write-laws) (λ c. search write-laws))

@@ -1,19 +1,20 @@
--- `lent::copy_in` meets its contract. The invariant: the first i bytes are the source's, and the rest as they were.
-use Prim.Native.Nat.{_-_}
-use lib.ListN.{length}
-use Rattle.lent.proofs.Ends.{Copying, copying}
+-- `lent::copy_in` meets its contract: each way copies the whole.
+use Rattle.lent.proofs.Copies.{copies}
 use Rattle.lent.proofs.copy_in.Statement.{statement}
 use Rattle.lent.proofs.copy_in.Tie as tie
 
-abbrev Inv-loop : tie.InvT-loop
-Inv-loop out₀ source i₀ out i = Copying out₀ source out i
+copy-ends-requires-2 : tie.Need-copy-ends-requires-2
+copy-ends-requires-2 c κs = search copies
 
-abbrev μ-loop : tie.MeasureT-loop
-μ-loop out₀ source i₀ out i = length source - i
+returns-5 : tie.Need-returns-5
+returns-5 c = search copies
 
 pub copy-in-spec : {M : Type 1} → statement M
 copy-in-spec =
     tie.close
     (tie.spec
-    Inv-loop μ-loop (λ c. search copying) (λ c. search copying) (λ c. search copying) (λ c. search copying)
-    (λ c. search copying) (λ c. search copying) (λ c. search copying) (λ c. search copying))
+    (λ c κs. search copies) (λ c. search copies) (λ c. search copies) (λ c κs. search copies) (λ c. search copies)
+    (λ c. search copies) copy-ends-requires-2 (λ c. search copies) (λ c. search copies) (λ c κs. search copies)
+    (λ c. search copies) (λ c. search copies) (λ c. search copies) (λ c. search copies) (λ c. search copies)
+    (λ c. search copies) (λ c. search copies) (λ c. search copies) (λ c κs. search copies) (λ c. search copies)
+    returns-5)

@@ -9,4 +9,4 @@ count-spec =
     (tie.spec
     (λ c. search count-ends) (λ c. search count-ends) (λ c. search count-ends) (λ c κs. search count-ends)
     (λ c. search count-ends) (λ c. search count-ends) (λ c. search count-ends) (λ c. search count-ends)
-    (λ c. search count-ends) (λ c. search count-ends))
+    (λ c. search count-ends) (λ c. search count-ends) (λ c. search count-ends) (λ c. search count-ends))

@@ -13,9 +13,15 @@ returns-2 : tie.Need-returns-2
 unfolding saidTally
 returns-2 c = search (number-said saidTally, words-said saidTally, parts)
 
+returns-3 : tie.Need-returns-3
+unfolding saidTally
+returns-3 c = search (number-said saidTally, words-said saidTally, parts)
+
 pub say-tally-spec : {M : Type 1} → statement M
 say-tally-spec =
     tie.close
     (tie.spec
     (λ c. search needs) (λ c κs. search needs) (λ c. search needs) returns (λ c. search needs) (λ c κs. search needs)
-    (λ c κs. search needs) (λ c κs. search needs) (λ c κs. search needs) (λ c. search needs) returns-2)
+    (λ c κs. search needs) (λ c κs. search needs) (λ c κs. search needs) (λ c. search needs) returns-2
+    (λ c. search needs) (λ c κs. search needs) (λ c κs. search needs) (λ c κs. search needs) (λ c κs. search needs)
+    (λ c. search needs) returns-3)

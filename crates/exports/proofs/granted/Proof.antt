@@ -1,0 +1,7 @@
+-- `exports::granted` meets its contract: the one test for the eight words.
+use Rattle.exports.proofs.Ends.{granted-ends}
+use Rattle.exports.proofs.granted.Statement.{statement}
+use Rattle.exports.proofs.granted.Tie as tie
+
+pub granted-spec : {M : Type 1} → statement M
+granted-spec = tie.close (tie.spec (λ c. search granted-ends) (λ c. search granted-ends))
