@@ -22,6 +22,7 @@ use Rattle.types.specs.declared.Refusal.the-variants as R
 use Rattle.types.specs.declared.Special.{Special}
 use Rattle.types.specs.declared.SpecialAnswer.{SpecialAnswer}
 use Rattle.types.specs.declared.SpecialAnswer.the-variants as SA
+use Rattle.types.specs.declared.BudgetAnswer.the-variants as BA
 use Rattle.types.specs.declared.HeaderAnswer.the-variants as H
 use Rattle.types.specs.declared.AtomAnswer.{AtomAnswer}
 use Rattle.types.specs.declared.Skipped.{Skipped}
@@ -29,8 +30,28 @@ use Rattle.types.specs.declared.Skipped.the-variants as SK
 use Rattle.reader.specs.Strings.{lentString}
 use Rattle.integer.specs.Integers.{integerBody}
 use Rattle.float.specs.Floats.{floatBody}
+use Rattle.atom.specs.Charges.{budgetAfter}
 use Rattle.atom.specs.Atoms.{judged, integerTaken, floatTaken, bytesTaken, bodyTaken, atomAfter}
 use Rattle.dictionary.specs.Steps.{forgotten, bodyPast, bodyAfter}
+
+-- a budget that a charge exceeds, and one that it does not
+over-at : (b : Budget) (c : ℕ) (r : Refusal) (t : Bool) → ltb (b .0) c ≡ t →
+    pick t (BA.Refused R.TooManyBytesRead) (BA.Left (record { 0 = b .0 - c })) ≡ BA.Refused r → b .0 < c
+over-at b c r true e h = ltb-true (b .0) c e
+over-at b c r false e h = absurd (false≢true cc)
+
+pub over : (b : Budget) (c : ℕ) (r : Refusal) → budgetAfter b c ≡ BA.Refused r → b .0 < c
+over b c r h = over-at b c r (ltb (b .0) c) refl h
+
+afforded-at : (b : Budget) (c : ℕ) (rest : Budget) (t : Bool) → ltb (b .0) c ≡ t →
+    pick t (BA.Refused R.TooManyBytesRead) (BA.Left (record { 0 = b .0 - c })) ≡ BA.Left rest →
+    (c ≤ b .0) × (record { 0 = b .0 - c } ≡ rest)
+afforded-at b c rest true e h = absurd (false≢true cc)
+afforded-at b c rest false e h = (ltb-false (b .0) c e, cc)
+
+pub afforded : (b : Budget) (c : ℕ) (rest : Budget) → budgetAfter b c ≡ BA.Left rest →
+    (c ≤ b .0) × (record { 0 = b .0 - c } ≡ rest)
+afforded b c rest h = afforded-at b c rest (ltb (b .0) c) refl h
 
 -- the four ends of a body
 module _ (size at left : ℕ) (string : Bool) (len charge : ℕ) (why : Refusal) where
@@ -59,30 +80,30 @@ module _ (size at left : ℕ) (string : Bool) (len charge : ℕ) (why : Refusal)
   past-whole h k = simp (le-ltb left charge h, le-leb (at + len) size k)
 
 -- an atom of its header only: a sequence, a map, a symbol, a special that is known
-module _ (size : ℕ) (kind : Kind) (arg at left : ℕ) where
+module _ (size : ℕ) (kind : Kind) (arg : ℕ) (at : Place) (left : Budget) where
   pub header-only : (k : Kind) → kind ≡ k → known k arg ≡ true → bodyLength k arg ≡ 0 → chargeOf k arg ≡ 0 →
-      isString k ≡ false → at ≤ size →
-      SK.Past (record { 0 = at }) (record { 0 = left }) (record { 0 = at }) false ≡ bodyAfter size kind arg at left
+      isString k ≡ false → at .0 ≤ size → SK.Past at left at false ≡ bodyAfter size kind arg (at .0) (left .0)
   unfolding bodyPast
   header-only k e known-is none free no-string within =
-      let a : at + 0 ≡ at = omega arith in
-      let b : left - 0 ≡ left = omega arith in
-      rw (e, known-is, none, free, no-string) (simp (le-ltb left 0 (omega arith), a, b, le-leb at size within))
+      let a : at .0 + 0 ≡ at .0 = omega arith in
+      let b : left .0 - 0 ≡ left .0 = omega arith in
+      rw (e, known-is, none, free, no-string)
+      (simp (le-ltb (left .0) 0 (omega arith), a, b, le-leb (at .0) size within))
 
   -- a special, by what its argument answers
   module _ (k : kind ≡ K.Special) (got : SpecialAnswer) (g : got ≡ specialFrom arg) where
-    pub special-past : (special : Special) → got ≡ SA.Known special → at ≤ size →
-        SK.Past (record { 0 = at }) (record { 0 = left }) (record { 0 = at }) false ≡ bodyAfter size kind arg at left
+    pub special-past : (special : Special) → got ≡ SA.Known special → at .0 ≤ size →
+        SK.Past at left at false ≡ bodyAfter size kind arg (at .0) (left .0)
     special-past special e within =
         header-only K.Special k (special-below arg special (sym g ∙ e)) refl refl refl within
 
     pub special-other : (why : Refusal) → got ≡ SA.Refused why →
-        SK.Refused (record { 0 = at }) (record { 0 = left }) why ≡ bodyAfter size kind arg at left
+        SK.Refused at left why ≡ bodyAfter size kind arg (at .0) (left .0)
     unfolding bodyPast
     special-other why e =
         let above = special-above arg why (sym g ∙ e) in
-        let b : left - 0 ≡ left = omega arith in
-        rw (k, above .1, above .0) (simp (le-ltb left 0 (omega arith), b))
+        let b : left .0 - 0 ≡ left .0 = omega arith in
+        rw (k, above .1, above .0) (simp (le-ltb (left .0) 0 (omega arith), b))
 
 module _ (s : List ℕ) (arg : ℕ) (next : Place) (budget : Budget) where
   -- what a body of so many bytes does, with the budget that is left

@@ -9,6 +9,7 @@ use borrow.Author.Tests.{lt-ltb}
 use lib.ListN.{length}
 use types.Run.{OneOf, miss}
 use denote.Enum.Declared.{tagOf}
+use Rattle.types.specs.Choice.{pick}
 use Rattle.types.specs.Forms.{allowedCount, allowedFloat, countOf, numberCharge, unsupported}
 use Rattle.types.proofs.Kind.{the-type}
 use Rattle.types.specs.declared.Way.the-variants as W
@@ -18,6 +19,8 @@ use Rattle.types.specs.declared.Place.{Place}
 use Rattle.types.specs.declared.Budget.{Budget}
 use Rattle.types.specs.declared.Refusal.{Refusal}
 use Rattle.types.specs.declared.Refusal.the-variants as R
+use Rattle.types.specs.declared.BudgetAnswer.{BudgetAnswer}
+use Rattle.types.specs.declared.BudgetAnswer.the-variants as BA
 use Rattle.types.specs.declared.HeaderAnswer.{HeaderAnswer}
 use Rattle.types.specs.declared.HeaderAnswer.the-variants as H
 use Rattle.types.specs.declared.Skipped.{Skipped}
@@ -26,37 +29,42 @@ use Rattle.header.specs.Header.{headerRead}
 use Rattle.header.proofs.Places.{headerPlace, header-place}
 use Rattle.reader.specs.Strings.{startOf}
 use Rattle.reader.proofs.Strings.{start-within}
+use Rattle.atom.specs.Charges.{budgetAfter}
 use Rattle.atom.specs.Atoms.{atomRead}
 use Rattle.dictionary.specs.Steps.{skipped, bodyPast, bodyAfter}
-use Rattle.dictionary.proofs.Bodies.{past-over, past-unknown, past-eof, past-whole, header-only, special-past, special-other}
+use Rattle.dictionary.proofs.Bodies.{over, afforded, past-over, past-unknown, past-eof, past-whole, header-only, special-past, special-other}
 use Rattle.dictionary.proofs.Bodies.{after-header}
 
--- a body whose charge is known: the charge exceeds the budget
-module _ (size at left : ℕ) (string : Bool) (len price charge : ℕ) (allowed : Bool) (why : Refusal)
-    (priced : charge ≡ price) where
-  pub body-over-budget : left < charge →
-      SK.Refused (record { 0 = at }) (record { 0 = left }) R.TooManyBytesRead
-      ≡ bodyPast size at left string len price allowed why
-  body-over-budget h = cc (past-over size at left string len charge why allowed h)
+-- a body whose charge was judged: it exceeds the budget
+module _ (size : ℕ) (at : Place) (left : Budget) (string : Bool) (len price charge : ℕ) (allowed : Bool)
+    (why : Refusal) (paid : BudgetAnswer) (priced : charge ≡ price) (p : paid ≡ budgetAfter left charge) where
+  pub body-over-budget : (r : Refusal) → paid ≡ BA.Refused r →
+      SK.Refused at left R.TooManyBytesRead ≡ bodyPast size (at .0) (left .0) string len price allowed why
+  body-over-budget r e =
+      cc (past-over size (at .0) (left .0) string len charge why allowed (over left charge r (sym p ∙ e)))
 
-  module _ (paid : charge ≤ left) where
+  module _ (rest : Budget) (l : paid ≡ BA.Left rest) where
     -- it does not, and the atom is not known
     pub body-unknown : (refusal : Refusal) → refusal ≡ why → allowed ≡ false →
-        SK.Refused (record { 0 = at }) (record { 0 = left - charge }) refusal
-        ≡ bodyPast size at left string len price allowed why
-    body-unknown refusal w f = cc (past-unknown size at left string len charge why paid)
+        SK.Refused at rest refusal ≡ bodyPast size (at .0) (left .0) string len price allowed why
+    body-unknown refusal w f =
+        let b = afforded left charge rest (sym p ∙ l) in
+        cc (b .1, past-unknown size (at .0) (left .0) string len charge why (b .0))
 
     -- it is: its bytes are cut, or whole
-    module _ (k : allowed ≡ true) (within : at ≤ size) where
-      pub body-cut : size - at < len →
-          SK.Refused (record { 0 = size }) (record { 0 = left - charge }) R.Eof
-          ≡ bodyPast size at left string len price allowed why
-      body-cut h = cc (past-eof size at left string len charge why paid (omega arith))
+    module _ (k : allowed ≡ true) (inside : at .0 ≤ size) where
+      pub body-cut : size - at .0 < len →
+          SK.Refused (record { 0 = size }) rest R.Eof ≡ bodyPast size (at .0) (left .0) string len price allowed why
+      body-cut h =
+          let b = afforded left charge rest (sym p ∙ l) in
+          cc (b .1, past-eof size (at .0) (left .0) string len charge why (b .0) (omega arith))
 
-      pub body-whole : len ≤ size - at →
-          SK.Past (record { 0 = at + len }) (record { 0 = left - charge }) (record { 0 = at }) string
-          ≡ bodyPast size at left string len price allowed why
-      body-whole h = cc (past-whole size at left string len charge why paid (omega arith))
+      pub body-whole : len ≤ size - at .0 →
+          SK.Past (record { 0 = at .0 + len }) rest at string
+          ≡ bodyPast size (at .0) (left .0) string len price allowed why
+      body-whole h =
+          let b = afforded left charge rest (sym p ∙ l) in
+          cc (b .1, past-whole size (at .0) (left .0) string len charge why (b .0) (omega arith))
 
 pub ruleset body-ends = (body-over-budget, body-unknown, body-cut, body-whole, needs)
 

@@ -13,9 +13,11 @@ use Rattle.types.specs.declared.Skipped.{Skipped}
 use Rattle.types.specs.declared.Skipped.the-variants as SK
 use Rattle.types.specs.declared.Ran.{Ran}
 use Rattle.types.specs.declared.Ran.the-variants as RN
-use Rattle.dictionary.specs.Steps.{skipped, ShortPast}
+use Rattle.dictionary.specs.declared.Short.the-variants as SH
+use Rattle.dictionary.specs.Steps.{skipped, shortStep}
 use Rattle.dictionary.specs.Runs.{runFrom, runAll}
-use Rattle.dictionary.proofs.Steps.{Past, step-less}
+use Rattle.dictionary.proofs.Steps.{Past, Told, told, by-step, step-less}
+use Rattle.dictionary.proofs.Shorts.{by-first, short-less}
 use Rattle.dictionary.proofs.Turns.{Walked, walk-begins, walk-on, walk-answers, run-on, run-stop, run-end}
 
 -- so many atoms are read, the place is there, so much of the budget is left, and the rest of the run is the whole one's
@@ -28,36 +30,35 @@ Running s all atoms at left = Walked running s (runAll s all) atoms at (left, at
 pub run-begins : (s : List ℕ) (all : Budget) → Running s all 0 0 (all .0)
 run-begins s all = walk-begins running s (all .0, 0)
 
-module _ (s : List ℕ) (all : Budget) (atoms at left : ℕ) (i : Running s all atoms at left) where
-  module _ (h : at < length s) where
-    passed : (place : Place) (rest : Budget) (body : Place) (t : Bool) →
-        Past s at (record { 0 = left }) place rest body t → Running s all (atoms + 1) (place .0) (rest .0)
-    passed place rest body t e =
-        walk-on running s _ atoms at _ i (record { 0 = left }) place rest body t e _
-        (λ fuel later k. run-on s fuel later at (record { 0 = left }) atoms k place rest body t h e)
+-- an atom passed, by the step or by its first byte
+abbrev Turns : List ℕ → ℕ → Budget → Place → Budget → Place → Bool → Type 0
+Turns s at left place rest body t =
+    (all : Budget) (atoms : ℕ) → Running s all atoms at (left .0) → Running s all (atoms + 1) (place .0) (rest .0)
 
-    -- an atom passed by its first byte
-    pub short-turn : (short : ℕ) → at < short → (at < short → ShortPast s at left short) →
-        Running s all (atoms + 1) short (left - (short - at - 1))
-    short-turn short n e =
-        let z : short - at - 1 ≡ short - (at + 1) = omega arith in
-        rw z (passed _ _ _ _ (record { is = e n }))
+turns : (s : List ℕ) (at : ℕ) (left : Budget) (place : Place) (rest : Budget) (body : Place) (t : Bool) → at < length s →
+    Past s at left place rest body t → Turns s at left place rest body t
+turns s at left place rest body t h e all atoms i =
+    walk-on running s _ atoms at _ i left place rest body t e _
+    (λ fuel later k. run-on s fuel later at left atoms k place rest body t h e)
 
-    -- passed by the step, and refused by it
-    module _ (r : Skipped) (place : Place) (rest : Budget) (q : r ≡ skipped s at (record { 0 = left })) where
-      pub turn : (body : Place) (t : Bool) → r ≡ SK.Past place rest body t →
-          Running s all (atoms + 1) (place .0) (rest .0)
-      turn body t p = passed place rest body t (record { is = sym q ∙ p })
+pub short-turn : Told shortStep SH.Past Turns
+short-turn = told shortStep SH.Past by-first Turns turns
 
-      pub stops : (why : Refusal) → r ≡ SK.Refused place rest why →
-          RN.Stopped place rest atoms why (record { 0 = at }) ≡ runAll s all
-      stops why p =
-          walk-answers running s _ atoms at _ i _
-          (λ fuel later k. run-stop s fuel later at (record { 0 = left }) atoms k place rest why h (sym q ∙ p))
+pub turn : Told skipped SK.Past Turns
+turn = told skipped SK.Past by-step Turns turns
 
-  -- the end of the file
-  pub run-ends : length s ≤ at → RN.Done (record { 0 = at }) (record { 0 = left }) atoms ≡ runAll s all
-  run-ends h =
-      walk-answers running s _ atoms at _ i _ (λ fuel later k. run-end s fuel later at (record { 0 = left }) atoms k h)
+module _ (s : List ℕ) (all : Budget) (atoms : ℕ) (at : Place) (left : Budget) (i : Running s all atoms (at .0) (left .0))
+  where
+    -- refused by the step
+    pub stops : (r : Skipped) (place : Place) (rest : Budget) (why : Refusal) → at .0 < length s →
+        r ≡ skipped s (at .0) left → r ≡ SK.Refused place rest why → RN.Stopped place rest atoms why at ≡ runAll s all
+    stops r place rest why h q p =
+        walk-answers running s _ atoms (at .0) _ i _
+        (λ fuel later k. run-stop s fuel later (at .0) left atoms k place rest why h (sym q ∙ p))
 
-pub ruleset run-laws = (run-begins, short-turn, turn, step-less, stops, run-ends, needs)
+    -- the end of the file
+    pub run-ends : length s ≤ at .0 → RN.Done at left atoms ≡ runAll s all
+    run-ends h =
+        walk-answers running s _ atoms (at .0) _ i _ (λ fuel later k. run-end s fuel later (at .0) left atoms k h)
+
+pub ruleset run-laws = (run-begins, short-turn, turn, short-less, step-less, stops, run-ends, needs)

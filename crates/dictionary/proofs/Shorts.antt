@@ -1,82 +1,166 @@
 -- The atoms that the run and the tally pass by their first byte alone: what the step does at a header of one byte.
 use mathlib.Core.Path.{_≡_, refl, _∙_, sym, ap}
-use mathlib.Core.Bool.{true, false}
+use mathlib.Core.Bool.{Bool, true, false, false≢true}
 use mathlib.Core.List.{List, _∷_}
 use Prim.Native.Nat.{ℕ, suc, _+_, _-_, _/_, _%_, _≤_, _<_}
 use native.Mathlib.Omega.{arith}
-use lib.Dec.{leb, eqb}
+use lib.Dec.{ltb, eqb}
 use lib.ListN.{length, drop, getD}
 use lib.Seq.{drop-cons}
 use borrow.Author.Needs.{needs}
-use borrow.Author.Tests.{le-leb, lt-leb}
+use borrow.Author.Tests.{ltb-true, ltb-false, eq-eqb, ne-eqb}
+use Rattle.types.specs.Choice.{pick}
 use Rattle.types.specs.Kinds.{kindFrom, kindKnown}
-use Rattle.types.specs.Forms.{listed, allowedCount, countOf, numberCharge, known, bodyLength, chargeOf, isString, unknown}
+use Rattle.types.specs.Forms.{listed, allowedCount, numberCharge, known, bodyLength, chargeOf, isString, unknown}
 use Rattle.types.specs.declared.Kind.{Kind}
 use Rattle.types.specs.declared.Kind.the-variants as K
+use Rattle.types.specs.declared.Place.{Place}
+use Rattle.types.specs.declared.Budget.{Budget}
+use Rattle.types.specs.declared.Refusal.{Refusal}
+use Rattle.types.specs.declared.Refusal.the-variants as R
+use Rattle.types.specs.declared.BudgetAnswer.{BudgetAnswer}
+use Rattle.types.specs.declared.BudgetAnswer.the-variants as BA
+use Rattle.types.specs.declared.Skipped.{Skipped}
+use Rattle.types.specs.declared.Skipped.the-variants as SK
 use Rattle.header.specs.Header.{moreFollow, headerKind, headerArgument, headerLength}
 use Rattle.header.proofs.Answers.{one-length, one-argument}
-use Rattle.dictionary.specs.Steps.{skipped, bodyAfter, ShortPast}
-use Rattle.dictionary.proofs.Bodies.{past-whole}
-use Rattle.dictionary.proofs.Steps.{step-body}
+use Rattle.atom.specs.Charges.{budgetAfter}
+use Rattle.dictionary.specs.declared.Short.{Short}
+use Rattle.dictionary.specs.declared.Short.the-variants as SH
+use Rattle.dictionary.specs.Steps.{skipped, bodyPast, bodyAfter, pastAlone, shortByte, shortStep}
+use Rattle.dictionary.proofs.Bodies.{over, afforded, past-over, past-eof, past-whole}
+use Rattle.dictionary.proofs.Steps.{step-body, Told, Telling, told, Starts, Inside, Falls, Less}
+use Rattle.dictionary.proofs.Steps.{starts, inside, falls, less}
+
+-- a known body after a header of one byte
+module _ (size : ℕ) (at : Place) (left : Budget) (string : Bool) (len charge : ℕ) where
+  -- its bytes are cut: it is refused, for that or for its charge
+  cut-at : (t : Bool) → ltb (left .0) charge ≡ t → size < at .0 + 1 + len →
+      SH.Other ≡ pastAlone (bodyPast size (at .0 + 1) (left .0) string len charge true R.Eof)
+  cut-at true e h =
+      cc (past-over size (at .0 + 1) (left .0) string len charge R.Eof true (ltb-true (left .0) charge e))
+  cut-at false e h =
+      cc (past-eof size (at .0 + 1) (left .0) string len charge R.Eof (ltb-false (left .0) charge e) h)
+
+  module _ (within : at .0 < size) where
+    pub short-cut : size - (at .0 + 1) < len →
+        SH.Other ≡ pastAlone (bodyPast size (at .0 + 1) (left .0) string len charge true R.Eof)
+    short-cut h = cut-at (ltb (left .0) charge) refl (omega arith)
+
+    -- they are there: its charge exceeds the budget, or does not
+    module _ (h : len ≤ size - (at .0 + 1)) (paid : BudgetAnswer) (p : paid ≡ budgetAfter left charge) where
+      pub short-dear : (r : Refusal) → paid ≡ BA.Refused r →
+          SH.Other ≡ pastAlone (bodyPast size (at .0 + 1) (left .0) string len charge true R.Eof)
+      short-dear r e =
+          cc (past-over size (at .0 + 1) (left .0) string len charge R.Eof true (over left charge r (sym p ∙ e)))
+
+      pub short-whole : (rest : Budget) → paid ≡ BA.Left rest →
+          SH.Past (record { 0 = at .0 + 1 + len }) rest (record { 0 = at .0 + 1 }) string
+          ≡ pastAlone (bodyPast size (at .0 + 1) (left .0) string len charge true R.Eof)
+      short-whole rest e =
+          let b = afforded left charge rest (sym p ∙ e) in
+          cc (b .1, past-whole size (at .0 + 1) (left .0) string len charge R.Eof (b .0) (omega arith))
+
+pub ruleset short-body-ends = (short-cut, short-dear, short-whole, needs)
 
 one-known : allowedCount 1 ≡ true
 unfolding listed
 one-known = refl
 
-module _ (s : List ℕ) (at left : ℕ) (within : at < length s) where
+-- why an atom would be refused that is known makes no difference
+known-any : (size at left : ℕ) (string : Bool) (len charge : ℕ) (allowed : Bool) (why other : Refusal) →
+    allowed ≡ true →
+    bodyPast size at left string len charge allowed why ≡ bodyPast size at left string len charge true other
+unfolding bodyPast
+known-any size at left string len charge allowed why other k = rw k refl
+
+module _ (s : List ℕ) (at : ℕ) (left : Budget) (within : at < length s) where
   -- the step there is what the body does
   alone : moreFollow (getD s at 0) ≡ false →
-      skipped s at (record { 0 = left })
-      ≡ bodyAfter (length s) (kindKnown (kindFrom (getD s at 0 / 32))) (getD s at 0 % 16) (at + 1) left
+      skipped s at left
+      ≡ bodyAfter (length s) (kindKnown (kindFrom (getD s at 0 / 32))) (getD s at 0 % 16) (at + 1) (left .0)
   alone m =
       let b = getD s at 0 in
       let d : drop at s ≡ b ∷ drop (suc at) s = drop-cons s at 0 within in
       let one : headerLength (drop at s) ≡ 1 = ap headerLength d ∙ one-length b (drop (suc at) s) m in
       let arg : headerArgument (drop at s) ≡ b % 16 = ap headerArgument d ∙ one-argument b (drop (suc at) s) m in
       let kind : headerKind (drop at s) ≡ kindKnown (kindFrom (b / 32)) = ap headerKind d in
-      cc (step-body s at (omega arith) (record { 0 = left }) (omega arith))
+      cc (step-body s at (omega arith) left (omega arith))
 
-  -- an atom of a known kind that costs what its body is long, and that is a string by its first byte
-  whole : (kind : Kind) (count end : ℕ) → moreFollow (getD s at 0) ≡ false →
-      kindKnown (kindFrom (getD s at 0 / 32)) ≡ kind → known kind (getD s at 0 % 16) ≡ true →
-      bodyLength kind (getD s at 0 % 16) ≡ count → chargeOf kind (getD s at 0 % 16) ≡ count →
-      isString kind ≡ leb 0xE0 (getD s at 0) → end ≡ at + 1 + count → end ≤ length s → count ≤ left →
-      ShortPast s at left end
-  whole kind count end m k known-is long costs string e inside paid =
-      let c : count ≡ end - (at + 1) = omega arith in
-      let past =
-      past-whole (length s) (at + 1) left (isString kind) count count (unknown kind (getD s at 0 % 16)) paid
-      (omega arith)
+  -- an atom of a known kind, by its body's length, its charge and whether it is a string
+  short-of : (kind : Kind) (string : Bool) (count charge : ℕ) (answer : Short) → shortByte (getD s at 0) ≡ true →
+      moreFollow (getD s at 0) ≡ false → kindKnown (kindFrom (getD s at 0 / 32)) ≡ kind →
+      known kind (getD s at 0 % 16) ≡ true → bodyLength kind (getD s at 0 % 16) ≡ count →
+      chargeOf kind (getD s at 0 % 16) ≡ charge → isString kind ≡ string →
+      answer ≡ pastAlone (bodyPast (length s) (at + 1) (left .0) string count charge true R.Eof) →
+      answer ≡ shortStep s at left
+  unfolding shortStep
+  short-of kind string count charge answer short m k known-is long costs is-string e =
+      let same =
+      known-any (length s) (at + 1) (left .0) (isString kind) (bodyLength kind (getD s at 0 % 16))
+      (chargeOf kind (getD s at 0 % 16)) (known kind (getD s at 0 % 16)) (unknown kind (getD s at 0 % 16)) R.Eof
+      known-is
       in
-      cc (alone m, past)
+      cc (alone m, same)
 
   -- a UInt of one byte
-  pub short-uint : getD s at 0 ≡ 0x40 → 1 < length s - at → 1 ≤ left → ShortPast s at left (at + 2)
-  short-uint b h paid =
-      let k : known K.UInt (getD s at 0 % 16) ≡ true = rw b one-known in
-      let c : countOf (getD s at 0 % 16) ≡ 1 = rw b refl in
-      let p : numberCharge (countOf (getD s at 0 % 16)) ≡ 1 = rw b refl in
-      whole K.UInt 1 (at + 2) (ap moreFollow b) (ap (λ (n : ℕ). kindKnown (kindFrom (n / 32))) b) k c p
-      (sym (lt-leb 0xE0 (getD s at 0) (omega arith))) (omega arith) (omega arith) paid
+  pub short-uint : (charge : ℕ) (answer : Short) → getD s at 0 ≡ 0x40 → charge ≡ numberCharge 1 →
+      answer ≡ pastAlone (bodyPast (length s) (at + 1) (left .0) false 1 charge true R.Eof) →
+      answer ≡ shortStep s at left
+  short-uint charge answer b c e =
+      short-of K.UInt false 1 charge answer (ap shortByte b) (ap moreFollow b)
+      (ap (λ (n : ℕ). kindKnown (kindFrom (n / 32))) b) (rw b one-known) (rw b refl)
+      (ap (λ (n : ℕ). chargeOf K.UInt (n % 16)) b ∙ sym c) refl e
 
   -- a string
-  pub short-string : getD s at 0 / 16 ≡ 14 → getD s at 0 % 16 < length s - at → getD s at 0 % 16 ≤ left →
-      ShortPast s at left (at + 1 + getD s at 0 % 16)
-  short-string b h paid =
+  pub short-string : (answer : Short) → getD s at 0 / 16 ≡ 14 →
+      answer
+      ≡ pastAlone (bodyPast (length s) (at + 1) (left .0) true (getD s at 0 % 16) (getD s at 0 % 16) true R.Eof) →
+      answer ≡ shortStep s at left
+  short-string answer b e =
       let seven : getD s at 0 / 32 ≡ 7 = omega arith in
-      whole K.Bytes (getD s at 0 % 16) _ (ap (λ (n : ℕ). eqb (n % 2) 1) b)
-      (ap (λ (n : ℕ). kindKnown (kindFrom n)) seven) refl
-      refl refl (sym (le-leb 0xE0 (getD s at 0) (omega arith))) refl (omega arith) paid
+      let other : getD s at 0 ≡ 0x40 → ⊥ = λ x. omega arith in
+      short-of K.Bytes true (getD s at 0 % 16) (getD s at 0 % 16) answer
+      (rw (ne-eqb (getD s at 0) 0x40 other, b) refl) (ap (λ (n : ℕ). eqb (n % 2) 1) b)
+      (ap (λ (n : ℕ). kindKnown (kindFrom n)) seven) refl refl refl refl e
 
   -- a sequence
-  pub short-sequence : getD s at 0 / 16 ≡ 8 → ShortPast s at left (at + 1)
-  short-sequence b =
+  pub short-sequence : (answer : Short) → getD s at 0 / 16 ≡ 8 →
+      answer ≡ pastAlone (bodyPast (length s) (at + 1) (left .0) false 0 0 true R.Eof) → answer ≡ shortStep s at left
+  short-sequence answer b e =
       let four : getD s at 0 / 32 ≡ 4 = omega arith in
-      whole K.Sequence 0 (at + 1) (ap (λ (n : ℕ). eqb (n % 2) 1) b) (ap (λ (n : ℕ). kindKnown (kindFrom n)) four) refl
-      refl refl (sym (lt-leb 0xE0 (getD s at 0) (omega arith))) (omega arith) (omega arith) (omega arith)
+      let other : getD s at 0 ≡ 0x40 → ⊥ = λ x. omega arith in
+      short-of K.Sequence false 0 0 answer (rw (ne-eqb (getD s at 0) 0x40 other, b) refl)
+      (ap (λ (n : ℕ). eqb (n % 2) 1) b) (ap (λ (n : ℕ). kindKnown (kindFrom n)) four) refl refl refl refl e
 
-  -- any other, or one that is refused: its start
-  pub not-short : at < at → ShortPast s at left at
-  not-short later = absurd (omega arith)
+  -- any other
+  pub not-short : (getD s at 0 ≡ 0x40 → ⊥) → (getD s at 0 / 16 ≡ 14 → ⊥) → (getD s at 0 / 16 ≡ 8 → ⊥) →
+      SH.Other ≡ shortStep s at left
+  unfolding shortStep
+  not-short a b c = simp (ne-eqb (getD s at 0) 0x40 a, ne-eqb (getD s at 0 / 16) 14 b, ne-eqb (getD s at 0 / 16) 8 c)
 
 pub ruleset short-ends = (short-uint, short-string, short-sequence, not-short, needs)
+
+-- what was passed so, the step passes
+past-at : (place : Place) (rest : Budget) (body : Place) (t u : Bool) (step : Skipped) →
+    pick u (pastAlone step) SH.Other ≡ SH.Past place rest body t → step ≡ SK.Past place rest body t
+past-at place rest body t true (SK.Past p b q v) e = cc
+past-at place rest body t true (SK.Refused p b r) e = absurd (false≢true cc)
+past-at place rest body t false step e = absurd (false≢true cc)
+
+pub by-first : Telling shortStep SH.Past
+unfolding shortStep
+by-first s at left place rest body t e = past-at place rest body t (shortByte (getD s at 0)) (skipped s at left) e
+
+-- so the loops have of it what they have of a step
+pub short-starts : Told shortStep SH.Past Starts
+short-starts = told shortStep SH.Past by-first Starts starts
+
+pub short-inside : Told shortStep SH.Past Inside
+short-inside = told shortStep SH.Past by-first Inside inside
+
+pub short-falls : Told shortStep SH.Past Falls
+short-falls = told shortStep SH.Past by-first Falls falls
+
+pub short-less : Told shortStep SH.Past Less
+short-less = told shortStep SH.Past by-first Less less

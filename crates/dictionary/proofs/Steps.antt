@@ -136,21 +136,67 @@ module _ (s : List ℕ) (at : ℕ) (within : at ≤ length s) (budget : Budget) 
   pub forward : Past s at budget place rest body t → Forward s at (budget .0) (place .0) (rest .0) (body .0)
   forward e = forward-at (leb (at + headerLength (drop at s)) (length s)) refl e
 
--- what the loops have of a step that passed an atom: the body starts before its end, within the source, the budget
--- never rises, and fewer bytes are left
-module _ (s : List ℕ) (at left : ℕ) (r : Skipped) (place : Place) (rest : Budget) (body : Place) (t : Bool)
-    (q : r ≡ skipped s at (record { 0 = left })) (p : r ≡ SK.Past place rest body t) (h : at < length s) where
-  pub went : Forward s at left (place .0) (rest .0) (body .0)
-  went = forward s at (omega arith) (record { 0 = left }) place rest body t (record { is = sym q ∙ p })
+-- what the loops are told of a step that passed an atom, by `skip_atom` or by the first byte alone, and what follows of it
+abbrev pub Told : {X : Type 0} → (List ℕ → ℕ → Budget → X) → (Place → Budget → Place → Bool → X) →
+    (List ℕ → ℕ → Budget → Place → Budget → Place → Bool → Type 0) → Type 0
+Told {X} step past P =
+    (s : List ℕ) (at : ℕ) (left : Budget) (r : X) (place : Place) (rest : Budget) (body : Place) (t : Bool) →
+    r ≡ step s at left → r ≡ past place rest body t → at < length s → P s at left place rest body t
 
-  pub step-starts : body .0 ≤ place .0
-  step-starts = went .after
+abbrev pub Telling : {X : Type 0} → (List ℕ → ℕ → Budget → X) → (Place → Budget → Place → Bool → X) → Type 0
+Telling step past =
+    (s : List ℕ) (at : ℕ) (left : Budget) (place : Place) (rest : Budget) (body : Place) (t : Bool) →
+    step s at left ≡ past place rest body t → skipped s at left ≡ SK.Past place rest body t
 
-  pub step-inside : place .0 ≤ length s
-  step-inside = went .inside
+pub told : {X : Type 0} (step : List ℕ → ℕ → Budget → X) (past : Place → Budget → Place → Bool → X) →
+    Telling step past → (P : List ℕ → ℕ → Budget → Place → Budget → Place → Bool → Type 0) →
+    ((s : List ℕ) (at : ℕ) (left : Budget) (place : Place) (rest : Budget) (body : Place) (t : Bool) →
+    at < length s → Past s at left place rest body t → P s at left place rest body t) →
+    Told step past P
+told step past telling P f s at left r place rest body t q p h =
+    f s at left place rest body t h (record { is = telling s at left place rest body t (sym q ∙ p) })
 
-  pub step-falls : rest .0 ≤ left
-  step-falls = went .falls
+pub by-step : Telling skipped SK.Past
+by-step s at left place rest body t e = e
 
-  pub step-less : length s - place .0 < length s - at
-  step-less = let w = went in omega arith
+-- the body starts before its end, and both are within the source; the budget never rises, and fewer bytes are left
+abbrev pub Starts : List ℕ → ℕ → Budget → Place → Budget → Place → Bool → Type 0
+Starts s at left place rest body t = body .0 ≤ place .0
+
+abbrev pub Inside : List ℕ → ℕ → Budget → Place → Budget → Place → Bool → Type 0
+Inside s at left place rest body t = place .0 ≤ length s
+
+abbrev pub Falls : List ℕ → ℕ → Budget → Place → Budget → Place → Bool → Type 0
+Falls s at left place rest body t = rest .0 ≤ left .0
+
+abbrev pub Less : List ℕ → ℕ → Budget → Place → Budget → Place → Bool → Type 0
+Less s at left place rest body t = length s - place .0 < length s - at
+
+module _ (s : List ℕ) (at : ℕ) (left : Budget) (place : Place) (rest : Budget) (body : Place) (t : Bool)
+    (h : at < length s) (p : Past s at left place rest body t) where
+  pub went : Forward s at (left .0) (place .0) (rest .0) (body .0)
+  went = forward s at (omega arith) left place rest body t p
+
+  pub starts : Starts s at left place rest body t
+  starts = went .after
+
+  pub inside : Inside s at left place rest body t
+  inside = went .inside
+
+  pub falls : Falls s at left place rest body t
+  falls = went .falls
+
+  pub less : Less s at left place rest body t
+  less = let w = went in omega arith
+
+pub step-starts : Told skipped SK.Past Starts
+step-starts = told skipped SK.Past by-step Starts starts
+
+pub step-inside : Told skipped SK.Past Inside
+step-inside = told skipped SK.Past by-step Inside inside
+
+pub step-falls : Told skipped SK.Past Falls
+step-falls = told skipped SK.Past by-step Falls falls
+
+pub step-less : Told skipped SK.Past Less
+step-less = told skipped SK.Past by-step Less less

@@ -1,14 +1,13 @@
 -- The tally's loop: what holds before each turn, what a turn keeps of it, and what the tally answers at its ends. The
 -- sums are bounded by the bytes passed, of which there are at most 16,777,216, so that none wraps.
-use mathlib.Core.Path.{_≡_, _∙_, sym}
+use mathlib.Core.Path.{_≡_, _∙_, sym, ap}
 use mathlib.Core.Bool.{Bool}
 use mathlib.Core.List.{List}
 use Prim.Native.Nat.{ℕ, suc, _+_, _-_, _*_, _≤_, _<_}
 use native.Mathlib.Omega.{arith}
 use borrow.Author.Needs.{needs}
 use borrow.Author.Tests.{lt-ltb, le-ltb}
-use lib.Dec.{leb}
-use lib.ListN.{length, take, drop, getD}
+use lib.ListN.{length, take, drop}
 use mir.Syntax.{w64}
 use mir.Val.{Fits}
 use Rattle.types.specs.Choice.{pick}
@@ -21,9 +20,12 @@ use Rattle.types.specs.declared.Skipped.the-variants as SK
 use Rattle.types.specs.declared.TallyAnswer.{TallyAnswer}
 use Rattle.types.specs.declared.TallyAnswer.the-variants as TA
 use Rattle.dictionary.specs.Letters.{letters}
-use Rattle.dictionary.specs.Steps.{skipped, ShortPast}
+use Rattle.dictionary.specs.declared.Short.the-variants as SH
+use Rattle.dictionary.specs.Steps.{skipped, shortStep}
 use Rattle.dictionary.specs.Runs.{tallied, tallyFrom, tallyAll, nothing, unlimited}
-use Rattle.dictionary.proofs.Steps.{Past, forward, went, step-starts, step-inside, step-falls, step-less}
+use Rattle.dictionary.proofs.Steps.{Past, forward, went, Told, told, by-step, step-starts, step-inside}
+use Rattle.dictionary.proofs.Steps.{step-falls, step-less}
+use Rattle.dictionary.proofs.Shorts.{by-first, short-starts, short-inside, short-falls, short-less}
 use Rattle.dictionary.proofs.Turns.{Walked, walk-begins, walk-on, walk-answers, tally-on, tally-stop, tally-end}
 
 -- so much is counted, the place is there, and the rest of the tally is the whole one's
@@ -44,68 +46,133 @@ tally-begins s = record {
   lettered = omega arith;
 }
 
-module _ (s : List ℕ) (atoms body charge signs at : ℕ) (i : Tallying s atoms body charge signs at) where
-  module _ (h : at < length s) where
-    -- an atom that is passed, with so many letters
-    passed : (place : Place) (rest : Budget) (from : Place) (string : Bool) (n : ℕ) → n + from .0 ≤ place .0 →
-        n ≡ pick string (letters (take (place .0 - from .0) (drop (from .0) s))) 0 →
-        Past s at (record { 0 = unlimited }) place rest from string →
-        Tallying s (atoms + 1) (body + (place .0 - from .0)) (charge + (unlimited - rest .0)) (signs + n) (place .0)
-    passed place rest from string n most e p =
-        let w = forward s at (omega arith) (record { 0 = unlimited }) place rest from string p in
-        record {
-          walked =
-              rw e
-              (walk-on tallyFrom s _ atoms at _ (i .walked) (record { 0 = unlimited }) place rest from string p _
-              (λ fuel later k. tally-on s fuel later at _ k place rest from string h p));
-          low = omega arith;
-          costs = omega arith;
-          lettered = omega arith;
-        }
+module _ (s : List ℕ) (at : ℕ) (left : Budget) (place : Place) (rest : Budget) (from : Place) (string : Bool)
+    (h : at < length s) (p : Past s at left place rest from string) (full : left ≡ record { 0 = unlimited })
+    (atoms body charge signs : ℕ) (i : Tallying s atoms body charge signs at) where
+  -- an atom that is passed, with so many letters
+  passed : (n : ℕ) → n + from .0 ≤ place .0 → n ≡ pick string (letters (take (place .0 - from .0) (drop (from .0) s))) 0 →
+      Tallying s (atoms + 1) (body + (place .0 - from .0)) (charge + (unlimited - rest .0)) (signs + n) (place .0)
+  passed n most e =
+      let all : Past s at (record { 0 = unlimited }) place rest from string = record { is = rw (← full) (p .is) } in
+      let w = forward s at (omega arith) (record { 0 = unlimited }) place rest from string all in
+      let f = i .walked .few in
+      let l = i .low in
+      let c = i .costs in
+      let m = i .lettered in
+      record {
+        walked =
+            rw e
+            (walk-on tallyFrom s _ atoms at _ (i .walked) (record { 0 = unlimited }) place rest from string all _
+            (λ fuel later k. tally-on s fuel later at _ k place rest from string h all));
+        low = omega arith;
+        costs = omega arith;
+        lettered = omega arith;
+      }
 
-    -- passed by its first byte
-    pub short-tally : (short n : ℕ) → at < short → short - (at + 1) ≤ unlimited →
-        (at < short → ShortPast s at unlimited short) →
-        n ≡ pick (leb 0xE0 (getD s at 0)) (letters (take (short - (at + 1)) (drop (at + 1) s))) 0 →
-        n + (at + 1) ≤ short →
-        Tallying s (atoms + 1) (body + (short - (at + 1))) (charge + (short - (at + 1))) (signs + n) short
-    short-tally short n k paid e m most =
-        let z : unlimited - (unlimited - (short - (at + 1))) ≡ short - (at + 1) = omega arith in
-        rw z at (passed (record { 0 = short }) _ (record { 0 = at + 1 }) _ n most m (record { is = e k }))
+  -- no sum wraps
+  module _ (short : length s ≤ 16_777_216) where
+    spent : left .0 ≡ unlimited
+    spent = ap (λ (b : Budget). b .0) full
 
-    module _ (r : Skipped) (end : Place) (rest : Budget) (q : r ≡ skipped s at (record { 0 = unlimited })) where
-      -- passed by the step: no sum wraps
-      module _ (from : Place) (string : Bool) (p : r ≡ SK.Past end rest from string) where
-        pub body-fits : length s ≤ 16_777_216 → Fits w64 (body + (end .0 - from .0))
-        body-fits l = let w = went s at unlimited r end rest from string q p h in omega arith
+    body-low : Fits w64 (body + (place .0 - from .0))
+    body-low = let w = went s at left place rest from string h p in let l = i .low in omega arith
 
-        pub charge-fits : length s ≤ 16_777_216 → Fits w64 (charge + (unlimited - rest .0))
-        charge-fits l = let w = went s at unlimited r end rest from string q p h in omega arith
+    charge-low : Fits w64 (charge + (unlimited - rest .0))
+    charge-low =
+        let w = went s at left place rest from string h p in
+        let e = spent in
+        let l = i .low in
+        let c = i .costs in
+        omega arith
 
-        module _ (n : ℕ) (most : n + from .0 ≤ end .0) where
-          pub letters-fit : length s ≤ 16_777_216 → Fits w64 (signs + n)
-          letters-fit l = let w = went s at unlimited r end rest from string q p h in omega arith
+    letters-low : (n : ℕ) → n + from .0 ≤ place .0 → Fits w64 (signs + n)
+    letters-low n most = let w = went s at left place rest from string h p in let m = i .lettered in omega arith
 
-          pub step-tally : n ≡ pick string (letters (take (end .0 - from .0) (drop (from .0) s))) 0 →
-              Tallying s (atoms + 1) (body + (end .0 - from .0)) (charge + (unlimited - rest .0)) (signs + n) (end .0)
-          step-tally m = passed end rest from string n most m (record { is = sym q ∙ p })
+-- what the loop asks of an atom passed, by the step or by its first byte
+abbrev BodyFits : List ℕ → ℕ → Budget → Place → Budget → Place → Bool → Type 0
+BodyFits s at left place rest from string =
+    (atoms body charge signs : ℕ) → Tallying s atoms body charge signs at → left ≡ record { 0 = unlimited } →
+    length s ≤ 16_777_216 → Fits w64 (body + (place .0 - from .0))
 
-      -- refused by it
-      pub tally-stops : (why : Refusal) → length s ≤ 16_777_216 → r ≡ SK.Refused end rest why →
-          TA.Stopped (record { 0 = at }) why ≡ tallyAll s
-      tally-stops why l p =
-          rw (le-ltb _ _ l)
-          (walk-answers tallyFrom s _ atoms at _ (i .walked) _
-          (λ fuel later k. tally-stop s fuel later at _ k end rest why h (sym q ∙ p)))
+abbrev ChargeFits : List ℕ → ℕ → Budget → Place → Budget → Place → Bool → Type 0
+ChargeFits s at left place rest from string =
+    (atoms body charge signs : ℕ) → Tallying s atoms body charge signs at → left ≡ record { 0 = unlimited } →
+    length s ≤ 16_777_216 → Fits w64 (charge + (unlimited - rest .0))
+
+abbrev LettersFit : List ℕ → ℕ → Budget → Place → Budget → Place → Bool → Type 0
+LettersFit s at left place rest from string =
+    (atoms body charge signs : ℕ) → Tallying s atoms body charge signs at → left ≡ record { 0 = unlimited } →
+    length s ≤ 16_777_216 → (n : ℕ) → n + from .0 ≤ place .0 → Fits w64 (signs + n)
+
+abbrev Tallies : List ℕ → ℕ → Budget → Place → Budget → Place → Bool → Type 0
+Tallies s at left place rest from string =
+    (atoms body charge signs : ℕ) → Tallying s atoms body charge signs at → left ≡ record { 0 = unlimited } →
+    (n : ℕ) → n + from .0 ≤ place .0 → n ≡ pick string (letters (take (place .0 - from .0) (drop (from .0) s))) 0 →
+    Tallying s (atoms + 1) (body + (place .0 - from .0)) (charge + (unlimited - rest .0)) (signs + n) (place .0)
+
+module _ (s : List ℕ) (at : ℕ) (left : Budget) (place : Place) (rest : Budget) (from : Place) (string : Bool)
+    (h : at < length s) (p : Past s at left place rest from string) where
+  fits-body : BodyFits s at left place rest from string
+  fits-body atoms body charge signs i full l = body-low s at left place rest from string h p full atoms body charge signs i l
+
+  fits-charge : ChargeFits s at left place rest from string
+  fits-charge atoms body charge signs i full l =
+      charge-low s at left place rest from string h p full atoms body charge signs i l
+
+  fits-letters : LettersFit s at left place rest from string
+  fits-letters atoms body charge signs i full l n most =
+      letters-low s at left place rest from string h p full atoms body charge signs i l n most
+
+  tallies : Tallies s at left place rest from string
+  tallies atoms body charge signs i full n most e =
+      passed s at left place rest from string h p full atoms body charge signs i n most e
+
+pub body-fits : Told skipped SK.Past BodyFits
+body-fits = told skipped SK.Past by-step BodyFits fits-body
+
+pub charge-fits : Told skipped SK.Past ChargeFits
+charge-fits = told skipped SK.Past by-step ChargeFits fits-charge
+
+pub letters-fit : Told skipped SK.Past LettersFit
+letters-fit = told skipped SK.Past by-step LettersFit fits-letters
+
+pub step-tally : Told skipped SK.Past Tallies
+step-tally = told skipped SK.Past by-step Tallies tallies
+
+pub short-body-fits : Told shortStep SH.Past BodyFits
+short-body-fits = told shortStep SH.Past by-first BodyFits fits-body
+
+pub short-charge-fits : Told shortStep SH.Past ChargeFits
+short-charge-fits = told shortStep SH.Past by-first ChargeFits fits-charge
+
+pub short-letters-fit : Told shortStep SH.Past LettersFit
+short-letters-fit = told shortStep SH.Past by-first LettersFit fits-letters
+
+pub short-tally : Told shortStep SH.Past Tallies
+short-tally = told shortStep SH.Past by-first Tallies tallies
+
+module _ (s : List ℕ) (atoms body charge signs : ℕ) (at : Place) (i : Tallying s atoms body charge signs (at .0)) where
+  -- refused by the step
+  pub tally-stops : (r : Skipped) (end : Place) (rest : Budget) (why : Refusal) → at .0 < length s →
+      r ≡ skipped s (at .0) (record { 0 = unlimited }) → length s ≤ 16_777_216 → r ≡ SK.Refused end rest why →
+      TA.Stopped at why ≡ tallyAll s
+  tally-stops r end rest why h q l p =
+      rw (le-ltb _ _ l)
+      (walk-answers tallyFrom s _ atoms (at .0) _ (i .walked) _
+      (λ fuel later k. tally-stop s fuel later (at .0) _ k end rest why h (sym q ∙ p)))
 
   -- the end of the file
-  pub tally-ends : (r : TallyAnswer) → length s ≤ 16_777_216 → length s ≤ at →
+  pub tally-ends : (r : TallyAnswer) → length s ≤ 16_777_216 → length s ≤ at .0 →
       r ≡ TA.Done (tallied atoms body charge signs) → r ≡ tallyAll s
   tally-ends r l h e =
       e
       ∙ rw (le-ltb _ _ l)
-      (walk-answers tallyFrom s _ atoms at _ (i .walked) _ (λ fuel later k. tally-end s fuel later at _ k h))
+      (walk-answers tallyFrom s _ atoms (at .0) _ (i .walked) _ (λ fuel later k. tally-end s fuel later (at .0) _ k h))
 
-pub ruleset tally-steps = (step-starts, step-inside, step-falls, step-less, body-fits, charge-fits, letters-fit)
+pub ruleset step-passed = (step-starts, step-inside, step-falls, step-less, body-fits, charge-fits, letters-fit, step-tally)
 
-pub ruleset tally-laws = (too-long, tally-begins, short-tally, tally-steps, step-tally, tally-stops, tally-ends, needs)
+pub ruleset short-passed =
+    (short-starts, short-inside, short-falls, short-less, short-body-fits, short-charge-fits, short-letters-fit)
+
+pub ruleset tally-laws =
+    (too-long, tally-begins, short-passed, short-tally, step-passed, tally-stops, tally-ends, needs)

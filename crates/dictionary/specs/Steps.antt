@@ -1,9 +1,8 @@
 -- The step of a run: an atom read exactly, strings lent, and its value forgotten. Document 01, "Two ways of reading".
-use Prim.Native.Nat.{ℕ, _+_, _-_}
-use mathlib.Core.Path.{_≡_}
-use mathlib.Core.Bool.{Bool, false}
+use Prim.Native.Nat.{ℕ, _+_, _-_, _/_}
+use mathlib.Core.Bool.{Bool, true, false}
 use mathlib.Core.List.{List, []}
-use lib.Dec.{ltb, leb}
+use lib.Dec.{ltb, leb, eqb}
 use lib.ListN.{getD}
 use Rattle.types.specs.Choice.{pick}
 use Rattle.types.specs.Forms.{known, bodyLength, chargeOf, isString, unknown}
@@ -20,6 +19,8 @@ use Rattle.types.specs.declared.Skipped.{Skipped}
 use Rattle.types.specs.declared.Skipped.the-variants as SK
 use Rattle.header.specs.Header.{headerRead}
 use Rattle.atom.specs.Atoms.{atomRead}
+use Rattle.dictionary.specs.declared.Short.{Short}
+use Rattle.dictionary.specs.declared.Short.the-variants as SH
 
 -- an atom's read with the value forgotten: what is left is where its body starts, and whether it is a string. (No atom is
 -- read whose header was refused.)
@@ -49,9 +50,15 @@ abbrev pub bodyAfter : ℕ → Kind → ℕ → ℕ → ℕ → Skipped
 bodyAfter size kind arg at left =
     bodyPast size at left (isString kind) (bodyLength kind arg) (chargeOf kind arg) (known kind arg) (unknown kind arg)
 
--- a step past an atom whose header is one byte, and which costs what its body is long: it is a string if its kind, in the top 3
--- bits, is 7
-abbrev pub ShortPast : List ℕ → ℕ → ℕ → ℕ → Type 0
-ShortPast source at left end =
-    skipped source at (record { 0 = left })
-    ≡ SK.Past (record { 0 = end }) (record { 0 = left - (end - (at + 1)) }) (record { 0 = at + 1 }) (leb 0xE0 (getD source at 0))
+-- what a step tells of an atom that it goes past, and of no other
+abbrev pub pastAlone : Skipped → Short
+pastAlone (SK.Past place rest body string) = SH.Past place rest body string
+pastAlone (SK.Refused place rest r) = SH.Other
+
+-- the first bytes that are looked at: a UInt of one byte, a string or a sequence whose header is this byte alone
+abbrev pub shortByte : ℕ → Bool
+shortByte b = pick (eqb b 0x40) true (pick (eqb (b / 16) 14) true (eqb (b / 16) 8))
+
+-- the step at such a byte
+unfoldable pub shortStep : List ℕ → ℕ → Budget → Short
+shortStep source at budget = pick (shortByte (getD source at 0)) (pastAlone (skipped source at budget)) SH.Other

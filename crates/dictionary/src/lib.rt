@@ -9,10 +9,11 @@ ghost use Rattle.types.specs.Forms.{numberCharge, unsupported};
 ghost use Rattle.types.specs.declared.Refusal.the-variants as R;
 ghost use Rattle.types.specs.declared.TallyAnswer.the-variants as TA;
 ghost use Rattle.dictionary.specs.Letters.{letter, letters};
-ghost use Rattle.dictionary.specs.Steps.{skipped, bodyPast, bodyAfter, ShortPast};
+ghost use Rattle.dictionary.specs.Steps.{skipped, bodyPast, bodyAfter, pastAlone, shortStep};
 ghost use Rattle.dictionary.specs.Runs.{runAll, tallied, tallyAll};
 use types::BodyBytes;
 use types::Budget;
+use types::BudgetAnswer;
 use types::HeaderAnswer;
 use types::Kind;
 use types::Place;
@@ -25,64 +26,68 @@ use types::Tallied;
 use types::TallyAnswer;
 use types::Way;
 
+// What the run and the tally know of an atom by its first byte alone: what `skip_atom` answers of one that it goes past, or
+// nothing.
+enum Short {
+    Past(Place, Budget, Place, bool),
+    Other,
+}
+
 // A number's body, of that many bytes and of an allowed count or not: the charge first, then the count, then the end.
 fn skip_number(
     source: &[u8],
     kind: Kind,
     count: u64,
     allowed: bool,
-    at: usize,
-    left: u64,
+    at: Place,
+    left: Budget,
 ) -> Skipped
-    requires { ⌜ at ≤ length (now source) ⌝ }
-    ensures { λ r. ⌜ r ≡ bodyPast (length (now (source .entry))) at left false count (numberCharge count) allowed (unsupported kind count) ⌝ }
+    requires { ⌜ at .0 ≤ length (now source) ⌝ }
+    ensures { λ r. ⌜ r ≡ bodyPast (length (now (source .entry))) (at .0) (left .0) false count (numberCharge count) allowed (unsupported kind count) ⌝ }
 {
-    let charge = atom::in_memory_int_size(count);
-    if left < charge {
-        return Skipped::Refused(Place(at), Budget(left), Refusal::TooManyBytesRead);
-    }
-    let rest = left - charge;
+    let BudgetAnswer::Left(rest) = atom::update_budget(left, atom::in_memory_int_size(count)) else {
+        return Skipped::Refused(at, left, Refusal::TooManyBytesRead);
+    };
     if allowed {
-        let room = source.len() - at;
+        let room = source.len() - at.0;
         if (room as u64) < count {
-            return Skipped::Refused(Place(source.len()), Budget(rest), Refusal::Eof);
+            return Skipped::Refused(Place(source.len()), rest, Refusal::Eof);
         }
-        return Skipped::Past(Place(at + count as usize), Budget(rest), Place(at), false);
+        return Skipped::Past(Place(at.0 + count as usize), rest, at, false);
     }
-    return Skipped::Refused(Place(at), Budget(rest), Refusal::unsupported(kind, count));
+    return Skipped::Refused(at, rest, Refusal::unsupported(kind, count));
 }
 
 // A string's body.
-fn skip_bytes(source: &[u8], count: u64, at: usize, left: u64) -> Skipped
-    requires { ⌜ at ≤ length (now source) ⌝ }
-    ensures { λ r. ⌜ r ≡ bodyPast (length (now (source .entry))) at left true count count true R.Eof ⌝ }
+fn skip_bytes(source: &[u8], count: u64, at: Place, left: Budget) -> Skipped
+    requires { ⌜ at .0 ≤ length (now source) ⌝ }
+    ensures { λ r. ⌜ r ≡ bodyPast (length (now (source .entry))) (at .0) (left .0) true count count true R.Eof ⌝ }
 {
-    if left < count {
-        return Skipped::Refused(Place(at), Budget(left), Refusal::TooManyBytesRead);
-    }
-    let rest = left - count;
-    let room = source.len() - at;
+    let BudgetAnswer::Left(rest) = atom::update_budget(left, count) else {
+        return Skipped::Refused(at, left, Refusal::TooManyBytesRead);
+    };
+    let room = source.len() - at.0;
     if (room as u64) < count {
-        return Skipped::Refused(Place(source.len()), Budget(rest), Refusal::Eof);
+        return Skipped::Refused(Place(source.len()), rest, Refusal::Eof);
     }
-    return Skipped::Past(Place(at + count as usize), Budget(rest), Place(at), true);
+    return Skipped::Past(Place(at.0 + count as usize), rest, at, true);
 }
 
 // What follows a header, by its kind.
-fn skip_body(source: &[u8], kind: Kind, arg: u64, at: usize, left: u64) -> Skipped
-    requires { ⌜ at ≤ length (now source) ⌝ }
-    ensures { λ r. ⌜ r ≡ bodyAfter (length (now (source .entry))) kind arg at left ⌝ }
+fn skip_body(source: &[u8], kind: Kind, arg: u64, at: Place, left: Budget) -> Skipped
+    requires { ⌜ at .0 ≤ length (now source) ⌝ }
+    ensures { λ r. ⌜ r ≡ bodyAfter (length (now (source .entry))) kind arg (at .0) (left .0) ⌝ }
 {
     match kind {
-        Kind::Sequence => return Skipped::Past(Place(at), Budget(left), Place(at), false),
-        Kind::Map => return Skipped::Past(Place(at), Budget(left), Place(at), false),
-        Kind::Symbol => return Skipped::Past(Place(at), Budget(left), Place(at), false),
+        Kind::Sequence => return Skipped::Past(at, left, at, false),
+        Kind::Map => return Skipped::Past(at, left, at, false),
+        Kind::Symbol => return Skipped::Past(at, left, at, false),
         Kind::Special => match Special::try_from(arg) {
             SpecialAnswer::Known(_) => {
-                return Skipped::Past(Place(at), Budget(left), Place(at), false);
+                return Skipped::Past(at, left, at, false);
             }
             SpecialAnswer::Refused(refusal) => {
-                return Skipped::Refused(Place(at), Budget(left), refusal);
+                return Skipped::Refused(at, left, refusal);
             }
         },
         Kind::Int | Kind::UInt => {
@@ -103,7 +108,7 @@ pub fn skip_atom(source: &[u8], place: Place, budget: Budget) -> Skipped
 {
     match header::read_atom_header(source, place, Way::ExactLent) {
         HeaderAnswer::Read(next, kind, arg) => {
-            return skip_body(source, kind, arg, next.0, budget.0);
+            return skip_body(source, kind, arg, next, budget);
         }
         HeaderAnswer::Refused(end, refusal) => {
             return Skipped::Refused(end, budget, refusal);
@@ -111,36 +116,55 @@ pub fn skip_atom(source: &[u8], place: Place, budget: Budget) -> Skipped
     }
 }
 
-// Where an atom ends that the run and the tally pass without asking `skip_atom`: a UInt of one byte, a string or a sequence
-// whose header is one byte, as nearly all of a dictionary's are. Of any other, or one that is refused, its start. The charge
-// of each of the three is the length of its body.
-fn short_end(source: &[u8], at: usize, left: u64) -> usize
-    requires { ⌜ at < length (now source) ⌝ }
-    ensures { λ r. ⌜ (r ≤ length (now (source .entry))) × (r - (at + 1) ≤ left) × (at < r → ShortPast (now (source .entry)) at left r) ⌝ }
+// A known body of that length and charge, after a header of one byte.
+fn short_body(
+    size: usize,
+    at: Place,
+    left: Budget,
+    body: BodyBytes,
+    charge: u64,
+    string: bool,
+) -> Short
+    requires { ⌜ at .0 < size ⌝ }
+    ensures { λ r. ⌜ r ≡ pastAlone (bodyPast size (at .0 + 1) (left .0) string (body .0) charge true R.Eof) ⌝ }
 {
-    let first = source[at];
-    let room = source.len() - at;
+    let from = at.0 + 1;
+    if ((size - from) as u64) < body.0 {
+        return Short::Other;
+    }
+    let BudgetAnswer::Left(rest) = atom::update_budget(left, charge) else {
+        return Short::Other;
+    };
+    return Short::Past(Place(from + body.0 as usize), rest, Place(from), string);
+}
+
+// An atom that the run and the tally pass without asking `skip_atom`: a UInt of one byte, a string or a sequence whose header
+// is one byte, as nearly all of a dictionary's are. Each has the body and the charge of its kind.
+fn short_atom(source: &[u8], at: Place, left: Budget) -> Short
+    requires { ⌜ at .0 < length (now source) ⌝ }
+    ensures { λ r. ⌜ r ≡ shortStep (now (source .entry)) (at .0) left ⌝ }
+{
+    let here = at.0;
+    let first = source[here];
+    let size = source.len();
     if first == 0x40 {
-        if 1 < room {
-            if 1 <= left {
-                return at + 2;
-            }
-        }
-        return at;
+        return short_body(
+            size,
+            at,
+            left,
+            BodyBytes(1),
+            atom::in_memory_int_size(1),
+            false,
+        );
     }
     if first / 16 == 14 {
-        let count = (first % 16) as usize;
-        if count < room {
-            if count as u64 <= left {
-                return at + 1 + count;
-            }
-        }
-        return at;
+        let length = (first % 16) as u64;
+        return short_body(size, at, left, BodyBytes(length), length, true);
     }
     if first / 16 == 8 {
-        return at + 1;
+        return short_body(size, at, left, BodyBytes(0), 0, false);
     }
-    at
+    return Short::Other;
 }
 
 // Reads a file's atoms until its end or a refusal.
@@ -148,29 +172,30 @@ pub fn run(source: &[u8], budget: Budget) -> Ran
     ensures { λ r. ⌜ r ≡ runAll (now (source .entry)) budget ⌝ }
 {
     let mut atoms: u64 = 0;
-    let mut at: usize = 0;
-    let mut left = budget.0;
-    while at < source.len() {
-        let short = short_end(source, at, left);
-        if at < short {
-            atoms += 1;
-            let charge = (short - at - 1) as u64;
-            left -= charge;
-            at = short;
-            continue;
-        }
-        match skip_atom(source, Place(at), Budget(left)) {
-            Skipped::Past(place, rest, _, _) => {
+    let mut at = Place(0);
+    let mut left = budget;
+    while at.0 < source.len() {
+        match short_atom(source, at, left) {
+            Short::Past(end, rest, _, _) => {
                 atoms += 1;
-                at = place.0;
-                left = rest.0;
+                at = end;
+                left = rest;
+                continue;
+            }
+            Short::Other => {}
+        }
+        match skip_atom(source, at, left) {
+            Skipped::Past(next, rest, _, _) => {
+                atoms += 1;
+                at = next;
+                left = rest;
             }
             Skipped::Refused(place, rest, refusal) => {
-                return Ran::Stopped(place, rest, atoms, refusal, Place(at));
+                return Ran::Stopped(place, rest, atoms, refusal, at);
             }
         }
     }
-    return Ran::Done(Place(at), Budget(left), atoms);
+    return Ran::Done(at, left, atoms);
 }
 
 // 1 for a letter, else 0: a choice without a branch, so that a loop over it takes many bytes at a time.
@@ -223,21 +248,22 @@ pub fn count_letters(string: &[u8]) -> u64
 }
 
 // The letters of an atom's body, none if it is no string.
-fn letters_of(source: &[u8], from: usize, to: usize, string: bool) -> u64
-    requires { ⌜ (from ≤ to) × (to ≤ length (now source)) ⌝ }
-    ensures { λ r. ⌜ (r ≡ pick string (letters (take (to - from) (drop from (now (source .entry))))) 0) × (r + from ≤ to) ⌝ }
+fn letters_of(source: &[u8], from: Place, to: Place, string: bool) -> u64
+    requires { ⌜ (from .0 ≤ to .0) × (to .0 ≤ length (now source)) ⌝ }
+    ensures { λ r. ⌜ (r ≡ pick string (letters (take (to .0 - from .0) (drop (from .0) (now (source .entry))))) 0) × (r + from .0 ≤ to .0) ⌝ }
 {
     if string {
-        return count_letters(&source[from..to]);
+        let start = from.0;
+        let end = to.0;
+        return count_letters(&source[start..end]);
     }
     0
 }
 
 // The answer of a tally that met the file's end.
-fn counted(atoms: u64, body: u64, charge: u64, letters: u64) -> TallyAnswer
-    ensures { λ r. ⌜ r ≡ TA.Done (tallied atoms body charge letters) ⌝ }
+fn counted(atoms: u64, body: BodyBytes, charge: u64, letters: u64) -> TallyAnswer
+    ensures { λ r. ⌜ r ≡ TA.Done (tallied atoms (body .0) charge letters) ⌝ }
 {
-    let body = BodyBytes(body);
     TallyAnswer::Done(Tallied {
         atoms,
         body,
@@ -247,7 +273,7 @@ fn counted(atoms: u64, body: u64, charge: u64, letters: u64) -> TallyAnswer
 }
 
 // Counts a file's atoms, body bytes, charges and letters, or refuses at the first bad atom. Each atom is read with the
-// largest budget, which no charge exceeds.
+// largest budget, which no charge exceeds: what it takes of that is its charge.
 pub fn tally(source: &[u8]) -> TallyAnswer
     ensures { λ r. ⌜ r ≡ tallyAll (now (source .entry)) ⌝ }
 {
@@ -255,33 +281,32 @@ pub fn tally(source: &[u8]) -> TallyAnswer
         return TallyAnswer::Refused(Refusal::TooLong);
     }
     let mut atoms: u64 = 0;
-    let mut body: u64 = 0;
+    let mut body = BodyBytes(0);
     let mut charge: u64 = 0;
     let mut letters: u64 = 0;
-    let mut at: usize = 0;
-    while at < source.len() {
-        let short = short_end(source, at, 0xFFFF_FFFF_FFFF_FFFF);
-        if at < short {
-            let from = at + 1;
-            let size = (short - from) as u64;
-            let string = 0xE0 <= source[at];
-            atoms += 1;
-            body += size;
-            charge += size;
-            letters += letters_of(source, from, short, string);
-            at = short;
-            continue;
-        }
-        match skip_atom(source, Place(at), Budget(0xFFFF_FFFF_FFFF_FFFF)) {
-            Skipped::Past(end, rest, from, string) => {
-                atoms += 1;
-                body += (end.0 - from.0) as u64;
+    let mut at = Place(0);
+    while at.0 < source.len() {
+        match short_atom(source, at, Budget(0xFFFF_FFFF_FFFF_FFFF)) {
+            Short::Past(end, rest, from, string) => {
+                letters += letters_of(source, from, end, string);
+                body = BodyBytes(body.0 + (end.0 - from.0) as u64);
                 charge += 0xFFFF_FFFF_FFFF_FFFF - rest.0;
-                letters += letters_of(source, from.0, end.0, string);
-                at = end.0;
+                atoms += 1;
+                at = end;
+                continue;
+            }
+            Short::Other => {}
+        }
+        match skip_atom(source, at, Budget(0xFFFF_FFFF_FFFF_FFFF)) {
+            Skipped::Past(place, rest, from, string) => {
+                letters += letters_of(source, from, place, string);
+                body = BodyBytes(body.0 + (place.0 - from.0) as u64);
+                charge += 0xFFFF_FFFF_FFFF_FFFF - rest.0;
+                atoms += 1;
+                at = place;
             }
             Skipped::Refused(_, _, refusal) => {
-                return TallyAnswer::Stopped(Place(at), refusal);
+                return TallyAnswer::Stopped(at, refusal);
             }
         }
     }

@@ -7,10 +7,10 @@ use Rattle.dictionary.proofs.run.Statement.{statement}
 use Rattle.dictionary.proofs.run.Tie as tie
 
 abbrev Inv-loop : tie.InvT-loop
-Inv-loop source atoms₀ at₀ left₀ atoms at left = Running source (record { 0 = left₀ }) atoms at left
+Inv-loop source atoms₀ at₀ left₀ atoms at left = Running source left₀ atoms (at .0) (left .0)
 
 abbrev μ-loop : tie.MeasureT-loop
-μ-loop source atoms₀ at₀ left₀ atoms at left = length source - at
+μ-loop source atoms₀ at₀ left₀ atoms at left = length source - at .0
 
 loop-again : tie.Need-loop-again Inv-loop μ-loop
 loop-again c = search run-laws
@@ -29,6 +29,5 @@ run-spec =
     tie.close
     (tie.spec
     Inv-loop μ-loop (λ c. search run-laws) (λ c κs. search run-laws) (λ c. search run-laws) (λ c. search run-laws)
-    (λ c. search run-laws) (λ c. search run-laws) (λ c. search run-laws) loop-again (λ c κs. search run-laws)
-    (λ c. search run-laws) (λ c. search run-laws) (λ c. search run-laws) loop-again-2 (λ c. search run-laws) returns
-    returns-2)
+    (λ c. search run-laws) loop-again (λ c. search run-laws) (λ c κs. search run-laws) (λ c. search run-laws)
+    (λ c. search run-laws) (λ c. search run-laws) loop-again-2 (λ c. search run-laws) returns returns-2)

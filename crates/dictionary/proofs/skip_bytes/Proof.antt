@@ -7,5 +7,5 @@ pub skip-bytes-spec : {M : Type 1} → statement M
 skip-bytes-spec =
     tie.close
     (tie.spec
-    (λ c. search body-ends) (λ c. search body-ends) (λ c. search body-ends) (λ c. search body-ends)
-    (λ c. search body-ends))
+    (λ c κs. search body-ends) (λ c. search body-ends) (λ c. search body-ends) (λ c. search body-ends)
+    (λ c. search body-ends) (λ c. search body-ends) (λ c. search body-ends) (λ c. search body-ends))

@@ -7,5 +7,6 @@ pub skip-number-spec : {M : Type 1} → statement M
 skip-number-spec =
     tie.close
     (tie.spec
-    (λ c κs. search body-ends) (λ c. search body-ends) (λ c. search body-ends) (λ c. search body-ends)
-    (λ c. search body-ends) (λ c. search body-ends) (λ c κs. search body-ends) (λ c. search body-ends))
+    (λ c κs. search body-ends) (λ c κs. search body-ends) (λ c. search body-ends) (λ c. search body-ends)
+    (λ c. search body-ends) (λ c. search body-ends) (λ c. search body-ends) (λ c. search body-ends)
+    (λ c. search body-ends) (λ c κs. search body-ends) (λ c. search body-ends))

@@ -2,19 +2,24 @@
 -- measure.
 use Prim.Native.Nat.{_-_}
 use lib.ListN.{length}
+use Rattle.dictionary.proofs.Steps.{step-starts, step-inside}
 use Rattle.dictionary.proofs.Tallying.{Tallying, tally-laws}
 use Rattle.dictionary.proofs.tally.Statement.{statement}
 use Rattle.dictionary.proofs.tally.Tie as tie
 
 abbrev Inv-loop : tie.InvT-loop
 Inv-loop source atoms₀ body₀ charge₀ letters₀ at₀ atoms body charge letters at =
-    Tallying source atoms body charge letters at
+    Tallying source atoms (body .0) charge letters (at .0)
 
 abbrev μ-loop : tie.MeasureT-loop
-μ-loop source atoms₀ body₀ charge₀ letters₀ at₀ atoms body charge letters at = length source - at
+μ-loop source atoms₀ body₀ charge₀ letters₀ at₀ atoms body charge letters at = length source - at .0
 
 returns : tie.Need-returns Inv-loop μ-loop
 returns c = search tally-laws
+
+-- two facts, each searched for by itself: for both at once the search would break off
+letters-of-requires-2 : tie.Need-letters-of-requires-2 Inv-loop μ-loop
+letters-of-requires-2 c κs = (search step-starts, search step-inside)
 
 loop-again-2 : tie.Need-loop-again-2 Inv-loop μ-loop
 loop-again-2 c = search tally-laws
@@ -30,9 +35,9 @@ tally-spec =
     tie.close
     (tie.spec
     Inv-loop μ-loop returns (λ c. search tally-laws) (λ c κs. search tally-laws) (λ c. search tally-laws)
+    (λ c κs. search tally-laws) (λ c. search tally-laws) (λ c. search tally-laws) (λ c. search tally-laws)
     (λ c. search tally-laws) (λ c. search tally-laws) (λ c. search tally-laws) (λ c. search tally-laws)
-    (λ c. search tally-laws) (λ c κs. search tally-laws) (λ c. search tally-laws) (λ c. search tally-laws)
-    (λ c. search tally-laws) (λ c κs. search tally-laws) (λ c. search tally-laws) (λ c. search tally-laws)
-    (λ c. search tally-laws) (λ c. search tally-laws) (λ c. search tally-laws) (λ c. search tally-laws)
-    (λ c κs. search tally-laws) (λ c. search tally-laws) (λ c. search tally-laws) loop-again-2 (λ c. search tally-laws)
-    returns-2 (λ c κs. search tally-laws) returns-3)
+    (λ c. search tally-laws) (λ c. search tally-laws) (λ c κs. search tally-laws) (λ c. search tally-laws)
+    letters-of-requires-2 (λ c. search tally-laws) (λ c. search tally-laws) (λ c. search tally-laws)
+    (λ c. search tally-laws) (λ c. search tally-laws) (λ c. search tally-laws) (λ c. search tally-laws) loop-again-2
+    (λ c. search tally-laws) returns-2 (λ c κs. search tally-laws) returns-3)
