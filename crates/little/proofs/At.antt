@@ -5,9 +5,9 @@ use mathlib.Core.Bool.{Bool, true, false}
 use mathlib.Core.List.{List, _++_}
 use Prim.Native.Nat.{ℕ, zero, suc, _+_, _-_, _*_, _%_, _^_, _<_, _≤_}
 use native.Mathlib.Omega.{arith}
-use native.Mathlib.Nat.{zero-add, add-zero, suc-add, mul-assoc, mul-comm, pow-succ'}
+use native.Mathlib.Nat.{zero-add, add-zero, suc-add, mul-assoc, mul-comm, pow-suc, pow-succ'}
 use borrow.Author.Needs.{needs}
-use lib.Dec.{ltb}
+use lib.Dec.{ltb, lit<}
 use lib.ListN.{length, getD, drop-of-length-le, List·getD-eq-default}
 use lib.Seq.{drop-cons, take-nil, drop-at, take-append-seam}
 use borrow.Author.Tests.{ltb-true, ltb-false}
@@ -48,6 +48,11 @@ number-add (suc n) m s at =
       pow-succ' 256 n,
       mul-assoc,
     ) (omega arith)
+
+-- of bytes, it fits its count
+pub number-lt : (n : ℕ) (s : List ℕ) (at : ℕ) → ((i : ℕ) → getD s i 0 < 256) → numberAt n s at < 256 ^ n
+number-lt zero s at h = rw (number-none s at) (lit< tt)
+number-lt (suc n) s at h = rw (number-more n s at, pow-suc 256 n) (omega (arith, h at, number-lt n s (suc at) h))
 
 -- where bytes stand, their number is read
 pub number-stands : (before bytes after : List ℕ) →

@@ -18,6 +18,7 @@ use Rattle.types.specs.declared.Kind.{Kind}
 use Rattle.types.specs.declared.Way.{Way}
 use Rattle.types.specs.declared.Way.the-variants as W
 use Rattle.types.proofs.Places.{place-within, place-same}
+use Rattle.lent.specs.Lent.{copiedOver}
 use Rattle.reader.specs.Strings.{startOf, stringScratch, scratchNeeded}
 use Rattle.reader.specs.Raw.{rawBytes}
 use Rattle.reader.proofs.Strings.{start-within, scratch-read}
@@ -146,8 +147,9 @@ module _ (s : List ℕ) (place : ℕ) (buffer : List ℕ) where
           let p = place-same (length s) (startOf s place + length buffer) h in
           omega arith
 
-  pub raw-copied : rawBytes s place buffer ++ drop (length (rawBytes s place buffer)) buffer
-      ≡ copied s (startOf s place) (rawCount s place buffer) buffer
+  pub raw-copied :
+      copiedOver (rawBytes s place buffer) buffer ≡ copied s (startOf s place) (rawCount s place buffer) buffer
+  unfolding copiedOver
   raw-copied =
       ap (λ (l : List ℕ). l ++ drop (length (rawBytes s place buffer)) buffer) same-bytes
       ∙ ap (λ (n : ℕ). take (rawCount s place buffer) (drop (startOf s place) s) ++ drop n buffer) raw-length
