@@ -1,4 +1,4 @@
-//! The proved library's side: the exports of its loops, `crates/bench_loops`.
+//! The proved library's side: the exports of its loops, `crates/test_bench_loops`.
 
 use crate::{Found, Tally};
 

@@ -1,5 +1,5 @@
--- One atom read. Document 01, "Charges": "Order within an atom: header, then special known, or budget, then count allowed,
--- then end of input, then scratch room." What a kind and an argument mean stands in `types.Forms`.
+-- One atom read. Document 01, "Charges": "Order within an atom: header, then special known, or budget, then count
+-- allowed, then end of input, then scratch room." What a kind and an argument mean stands in `types.Forms`.
 use Prim.Native.Nat.{ℕ}
 use mathlib.Core.Bool.{true, false}
 use mathlib.Core.List.{List}
@@ -53,8 +53,9 @@ abbrev pub charged : Place → Budget → BudgetAnswer → (Budget → AtomAnswe
 charged next budget (BA.Left rest) body = body rest
 charged next budget (BA.Refused r) body = A.Refused next budget r
 
--- "special known, or budget, then count allowed": the charge first, which a special has none of, then whether the atom is known.
--- "3 UnknownSpecial: past header; unchanged", "6 UnsupportedByteCount: past header; charged"; else the body, with the budget left
+-- "special known, or budget, then count allowed": the charge first, which a special has none of, then whether the atom
+-- is known. "3 UnknownSpecial: past header; unchanged", "6 UnsupportedByteCount: past header; charged"; else the body,
+-- with the budget left
 unfoldable pub judged : Kind → ℕ → Place → Budget → (Budget → AtomAnswer) → AtomAnswer
 judged kind arg next budget body =
     charged next budget (budgetAfter budget (chargeOf kind arg))

@@ -28,7 +28,8 @@ abbrev pub afterAtom : {X : Type 0} → AtomAnswer → (Place → Budget → X) 
 afterAtom (A.Read place rest atom) on stop = on place rest
 afterAtom (A.Refused place rest r) on stop = stop place rest r
 
--- "until the place is the end of the slice or an atom is refused": on from a place, with so many atoms read; at most `fuel` atoms
+-- "until the place is the end of the slice or an atom is refused": on from a place, with so many atoms read; at most
+-- `fuel` atoms
 unfoldable pub runFrom : ℕ → List ℕ → ℕ → Budget → ℕ → Ran
 runFrom zero s at budget atoms = RN.Done (record { 0 = at }) budget atoms
 runFrom (suc fuel) s at budget atoms =
@@ -38,7 +39,8 @@ runFrom (suc fuel) s at budget atoms =
     (λ place rest r. RN.Stopped place rest atoms r (record { 0 = at })))
     (RN.Done (record { 0 = at }) budget atoms)
 
--- THE RUN: "reads exactly, strings lent, from place 0". An atom takes a byte at least, so that there are no more atoms than bytes
+-- THE RUN: "reads exactly, strings lent, from place 0". An atom takes a byte at least, so that there are no more atoms
+-- than bytes
 abbrev pub runAll : List ℕ → Budget → Ran
 runAll s budget = runFrom (suc (length s)) s 0 budget 0
 
@@ -53,16 +55,18 @@ afterStep (SK.Refused place rest r) on stop = stop r
 
 -- what a tally counts: atoms, body bytes, charge, letters
 abbrev pub tallied : ℕ → ℕ → ℕ → ℕ → Tallied
-tallied atoms body charge letters = record { atoms = atoms; body = record { 0 = body }; charge = charge; letters = letters }
+tallied atoms body charge letters =
+    record { atoms = atoms; body = record { 0 = body }; charge = charge; letters = letters }
 
--- an atom more: its body bytes, what it took of the budget, and the letters of its string; that the second sums to document
--- 01's charges, over a definition that knows no reader, is `Price.tally-priced`
+-- an atom more: its body bytes, what it took of the budget, and the letters of its string; that the second sums to
+-- document 01's charges, over a definition that knows no reader, is `Price.tally-priced`
 abbrev pub added : List ℕ → Tallied → ℕ → ℕ → ℕ → Bool → Tallied
 added s t place rest body string =
     tallied (t .atoms + 1) (t .body .0 + (place - body)) (t .charge + (unlimited - rest))
     (t .letters + pick string (letters (take (place - body) (drop body s))) 0)
 
--- "fails at the first bad atom with 3, 4 or 6 and the place where that atom starts": on from a place; at most `fuel` atoms
+-- "fails at the first bad atom with 3, 4 or 6 and the place where that atom starts": on from a place; at most `fuel`
+-- atoms
 unfoldable pub tallyFrom : ℕ → List ℕ → ℕ → Tallied → TallyAnswer
 tallyFrom zero s at t = TA.Done t
 tallyFrom (suc fuel) s at t =

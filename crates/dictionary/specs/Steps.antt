@@ -22,8 +22,8 @@ use Rattle.atom.specs.Atoms.{atomRead}
 use Rattle.dictionary.specs.declared.Short.{Short}
 use Rattle.dictionary.specs.declared.Short.the-variants as SH
 
--- an atom's read with the value forgotten: what is left is where its body starts, and whether it is a string. (No atom is
--- read whose header was refused.)
+-- an atom's read with the value forgotten: what is left is where its body starts, and whether it is a string. (No atom
+-- is read whose header was refused.)
 abbrev pub forgotten : HeaderAnswer → AtomAnswer → Skipped
 forgotten (H.Read next kind arg) (A.Read place rest atom) = SK.Past place rest next (isString kind)
 forgotten (H.Read next kind arg) (A.Refused place rest r) = SK.Refused place rest r
@@ -32,10 +32,11 @@ forgotten (H.Refused end why) (A.Refused place rest r) = SK.Refused place rest r
 
 -- THE STEP: `read_atom` with the value forgotten
 unfoldable pub skipped : List ℕ → ℕ → Budget → Skipped
-skipped source place budget = forgotten (headerRead W.ExactLent source place) (atomRead W.ExactLent source place budget [])
+skipped source place budget =
+    forgotten (headerRead W.ExactLent source place) (atomRead W.ExactLent source place budget [])
 
--- What a body does in a source of `size` bytes, where it starts at `at` with so much of the budget left: "budget, then count
--- allowed, then end of input".
+-- What a body does in a source of `size` bytes, where it starts at `at` with so much of the budget left: "budget, then
+-- count allowed, then end of input".
 unfoldable pub bodyPast : ℕ → ℕ → ℕ → Bool → ℕ → ℕ → Bool → Refusal → Skipped
 bodyPast size at left string len charge allowed why =
     pick (ltb left charge) (SK.Refused (record { 0 = at }) (record { 0 = left }) R.TooManyBytesRead)

@@ -1,5 +1,5 @@
--- What whole, known atoms are, and what they cost: over bytes alone, with no reader. What a kind and an argument mean stands in
--- `types.Forms`. Document 01, "Bytes of an atom" and "Charges".
+-- What whole, known atoms are, and what they cost: over bytes alone, with no reader. What a kind and an argument mean
+-- stands in `types.Forms`. Document 01, "Bytes of an atom" and "Charges".
 use Prim.Native.Nat.{ℕ, _+_, _<_, _≤_}
 use mathlib.Core.Path.{_≡_}
 use mathlib.Core.Bool.{true, false}
@@ -31,16 +31,21 @@ lettersIn bytes = pick (isString (headerKind bytes)) (letters (drop (headerLengt
 -- A LIST OF WHOLE, KNOWN ATOMS: bytes that are those of the atoms, one after the other
 pub data Atoms : List ℕ → List (List ℕ) → Type 0 where
   none : Atoms [] []
-  more : {atom rest : List ℕ} {atoms : List (List ℕ)} → IsAtom atom → Atoms rest atoms → Atoms (atom ++ rest) (atom ∷ atoms)
+  more : {atom rest : List ℕ} {atoms : List (List ℕ)} → IsAtom atom → Atoms rest atoms →
+      Atoms (atom ++ rest) (atom ∷ atoms)
 
 -- a sum over the atoms
 unfoldable pub total : (List ℕ → ℕ) → List (List ℕ) → ℕ
 total f [] = 0
 total f (atom ∷ atoms) = f atom + total f atoms
 
--- BYTES THAT START WITH NO SUCH ATOM, and the refusal of what stands there: the header is cut, or the atom is not known, or its
--- body is cut
+-- BYTES THAT START WITH NO SUCH ATOM, and the refusal of what stands there: the header is cut, or the atom is not
+-- known, or its body is cut
 pub data Spoilt : List ℕ → Refusal → Type 0 where
   cut-header : {bytes : List ℕ} → length bytes < headerLength bytes → Spoilt bytes R.Eof
-  not-known : {bytes : List ℕ} → headerLength bytes ≤ length bytes → known (headerKind bytes) (headerArgument bytes) ≡ false → Spoilt bytes (unknown (headerKind bytes) (headerArgument bytes))
-  cut-body : {bytes : List ℕ} → headerLength bytes ≤ length bytes → known (headerKind bytes) (headerArgument bytes) ≡ true → length bytes < headerLength bytes + bodyLength (headerKind bytes) (headerArgument bytes) → Spoilt bytes R.Eof
+  not-known : {bytes : List ℕ} → headerLength bytes ≤ length bytes →
+      known (headerKind bytes) (headerArgument bytes) ≡ false →
+      Spoilt bytes (unknown (headerKind bytes) (headerArgument bytes))
+  cut-body : {bytes : List ℕ} → headerLength bytes ≤ length bytes →
+      known (headerKind bytes) (headerArgument bytes) ≡ true →
+      length bytes < headerLength bytes + bodyLength (headerKind bytes) (headerArgument bytes) → Spoilt bytes R.Eof

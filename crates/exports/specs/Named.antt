@@ -1,4 +1,5 @@
--- What is done with a kind or a special that came in as its code; a code that names none is answered by its refusal, 2 or 3.
+-- What is done with a kind or a special that came in as its code; a code that names none is answered by its refusal, 2
+-- or 3.
 use Rattle.types.specs.declared.Kind.{Kind}
 use Rattle.types.specs.declared.Special.{Special}
 use Rattle.types.specs.declared.Refusal.{Refusal}

@@ -1,6 +1,6 @@
--- The part of a slice that a delivery mark says. Document 01, "Two ways of reading": "`as_slice` hands back a part of the
--- source or of the scratch, as the delivery mark says; a mark reaching past the slice it names gives the empty part at
--- that slice's end."
+-- The part of a slice that a delivery mark says. Document 01, "Two ways of reading": "`as_slice` hands back a part of
+-- the source or of the scratch, as the delivery mark says; a mark reaching past the slice it names gives the empty part
+-- at that slice's end."
 use Prim.Native.Nat.{ℕ, _+_}
 use mathlib.Core.Bool.{Bool}
 use mathlib.Core.List.{List, []}
@@ -27,4 +27,5 @@ markedBytes m source scratch = pick (m .lent) (partOf source (m .start) (m .len)
 
 -- where that part lies, of the pointers of both
 unfoldable pub markedPointer : Mark → ℕ × ℕ → ℕ × ℕ → List ℕ → List ℕ → ℕ × ℕ
-markedPointer m p q source scratch = pick (m .lent) (pointerOf p source (m .start) (m .len)) (pointerOf q scratch (m .start) (m .len))
+markedPointer m p q source scratch =
+    pick (m .lent) (pointerOf p source (m .start) (m .len)) (pointerOf q scratch (m .start) (m .len))

@@ -1,5 +1,5 @@
--- The raw byte read of both readers into a lent buffer. Document 01, "Two ways of reading", and `Read` of reader.rs. Each
--- definition takes the source, the place given, and the buffer as it was.
+-- The raw byte read of both readers into a lent buffer. Document 01, "Two ways of reading", and `Read` of reader.rs.
+-- Each definition takes the source, the place given, and the buffer as it was.
 use Prim.Native.Nat.{ℕ, _+_}
 use mathlib.Core.Bool.{_&&_}
 use mathlib.Core.List.{List}
@@ -19,7 +19,8 @@ rawBytes s place buffer = stringOf s place (length buffer)
 
 -- their count, and "the place stops at the end"
 unfoldable pub rawAnswer : List ℕ → ℕ → List ℕ → RawAnswer
-rawAnswer s place buffer = RA.Read (record { 0 = startOf s place + length (rawBytes s place buffer) }) (length (rawBytes s place buffer))
+rawAnswer s place buffer =
+    RA.Read (record { 0 = startOf s place + length (rawBytes s place buffer) }) (length (rawBytes s place buffer))
 
 -- they fill the first bytes of the buffer, "and the rest keep their value"
 unfoldable pub rawBuffer : List ℕ → ℕ → List ℕ → List ℕ
@@ -34,4 +35,5 @@ rawExactly way s place buffer =
 
 -- on a refusal "buffers keep their bytes"
 unfoldable pub rawExactlyBuffer : Way → List ℕ → ℕ → List ℕ → List ℕ
-rawExactlyBuffer way s place buffer = pick (exact way && runsOut s place (length buffer)) buffer (rawBuffer s place buffer)
+rawExactlyBuffer way s place buffer =
+    pick (exact way && runsOut s place (length buffer)) buffer (rawBuffer s place buffer)

@@ -27,8 +27,8 @@ signatureLength = 4
 abbrev pub afterSignature : List ℕ → List ℕ
 afterSignature file = drop signatureLength file
 
--- "version is the signature's low byte; bytes counts all after the signature; the others are the tally's"; "`at=` where the
--- refused atom starts in the file, signature counted (0 for signature and length)"
+-- "version is the signature's low byte; bytes counts all after the signature; the others are the tally's"; "`at=` where
+-- the refused atom starts in the file, signature counted (0 for signature and length)"
 abbrev pub counted : List ℕ → ℕ → TallyAnswer → Report
 counted file version (TA.Done t) = RP.Counted version (length (afterSignature file)) t
 counted file version (TA.Stopped start r) = RP.Refused r (record { 0 = signatureLength + start .0 })

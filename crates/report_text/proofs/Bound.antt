@@ -191,7 +191,7 @@ judged-most file true e = refused-most R.TooLong 0 (omega arith)
 judged-most file false e =
     signed-most file (versionRead W.ExactLent file 0) (ltb-false mostFileBytes (length file) e) (version-small file)
 
--- THE TEXT OF EVERY FILE HAS AT MOST 79 BYTES; `tally_cases` runs a file whose text has so many
+-- THE TEXT OF EVERY FILE HAS AT MOST 79 BYTES; `test_tally` runs a file whose text has so many
 pub text-most : (file : List ℕ) → length (reportText (reportOf file)) ≤ 79
 unfolding reportOf
 text-most file = judged-most file (ltb mostFileBytes (length file)) refl

@@ -1,5 +1,5 @@
--- The slice still to be read. Document 01, "Port order and changes of shape": "`SliceReader` returns as a reader that holds
--- the slice still to be read".
+-- The slice still to be read. Document 01, "Port order and changes of shape": "`SliceReader` returns as a reader that
+-- holds the slice still to be read".
 use mathlib.Core.Path.{_≡_}
 use Prim.Native.Nat.{ℕ, _+_}
 use mathlib.Core.List.{List}

@@ -5,7 +5,7 @@
 // - `SliceReader` and its functions are the original's reader, for a caller that holds one and goes on with it. An answer
 //   that carries the reader on is a struct with the answer beside the reader, since an enum can't hold a reference. Who
 //   calls them has a reader in a local, and so a proof by hand: the steps of it are `proofs/Holding.antt`, and
-//   `held_over` of `slice_reader_main` is such a caller. Each function is thin: it takes the reader apart and calls
+//   `held_over` of `test_slice_reader` is such a caller. Each function is thin: it takes the reader apart and calls
 //   what stands on the plain slice.
 // - `left_from`, and of each read the one at a slice's start and what it leaves (`integer_at_start`, `left_by_integer`),
 //   do the work. They are for the functions over the reader, and for a caller that carries the slice itself.

@@ -1,6 +1,7 @@
--- WHAT THE KIND AND THE ARGUMENT OF A HEADER MEAN: whether such an atom is known, how long its body is, what it costs, whether it
--- is a string, and its refusal if it is not known. This is the one home of it: the readers of an atom and of a number, the step,
--- the run, the tally, the writers' counts and the promises all cite it. Document 01, "Bytes of an atom" and "Charges".
+-- WHAT THE KIND AND THE ARGUMENT OF A HEADER MEAN: whether such an atom is known, how long its body is, what it costs,
+-- whether it is a string, and its refusal if it is not known. This is the one home of it: the readers of an atom and of
+-- a number, the step, the run, the tally, the writers' counts and the promises all cite it. Document 01, "Bytes of an
+-- atom" and "Charges".
 use Prim.Native.Nat.{ℕ, _+_, _%_, _^_}
 use mathlib.Core.Bool.{Bool, true, false}
 use mathlib.Core.List.{List, [], _∷_}
@@ -19,7 +20,8 @@ integersRead = 1 ∷ 2 ∷ 3 ∷ 4 ∷ 6 ∷ 8 ∷ 16 ∷ []
 abbrev pub floatsRead : List ℕ
 floatsRead = 2 ∷ 4 ∷ 8 ∷ []
 
--- The byte counts that integers are written with, a list of its own: "Writers use the smallest count that holds the value."
+-- The byte counts that integers are written with, a list of its own: "Writers use the smallest count that holds the
+-- value."
 abbrev pub integersWritten : List ℕ
 integersWritten = 1 ∷ 2 ∷ 3 ∷ 4 ∷ 6 ∷ 8 ∷ 16 ∷ []
 
@@ -62,8 +64,8 @@ known K.Map arg = true
 known K.Symbol arg = true
 known K.Bytes arg = true
 
--- THE LENGTH OF ITS BODY: "body bytes (all after an atom's header)"; "byte count is argument + 1", "Bytes: argument bytes follow.
--- Sequence, Map and Symbol are their header only."
+-- THE LENGTH OF ITS BODY: "body bytes (all after an atom's header)"; "byte count is argument + 1", "Bytes: argument
+-- bytes follow. Sequence, Map and Symbol are their header only."
 abbrev pub bodyLength : Kind → ℕ → ℕ
 bodyLength K.Special arg = 0
 bodyLength K.Int arg = countOf arg
@@ -74,7 +76,8 @@ bodyLength K.Map arg = 0
 bodyLength K.Symbol arg = 0
 bodyLength K.Bytes arg = arg
 
--- ITS CHARGE: "Int, UInt and Float: the byte count, but 3 costs 4 and 6 costs 8. Bytes: the string's length. Others: nothing."
+-- ITS CHARGE: "Int, UInt and Float: the byte count, but 3 costs 4 and 6 costs 8. Bytes: the string's length. Others:
+-- nothing."
 abbrev pub chargeOf : Kind → ℕ → ℕ
 chargeOf K.Special arg = 0
 chargeOf K.Int arg = numberCharge (countOf arg)
@@ -96,8 +99,8 @@ isString K.Map = false
 isString K.Symbol = false
 isString K.Bytes = true
 
--- ITS REFUSAL, if it is not known: "3 UnknownSpecial(value)", "6 UnsupportedByteCount(kind, count)"; an atom of another kind is
--- always known
+-- ITS REFUSAL, if it is not known: "3 UnknownSpecial(value)", "6 UnsupportedByteCount(kind, count)"; an atom of another
+-- kind is always known
 abbrev pub unknown : Kind → ℕ → Refusal
 unknown K.Special arg = R.UnknownSpecial arg
 unknown K.Int arg = unsupported K.Int (countOf arg)

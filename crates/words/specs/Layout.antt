@@ -1,6 +1,6 @@
--- Answers as numbers, for programs of other languages: a number, which is 0 of an answer that is no refusal and else the
--- refusal's number of document 01, and eight words beside it, zeros where nothing is said. "If an answer is an enum, a
--- definition tells you this paper's number and values for each of its cases."
+-- Answers as numbers, for programs of other languages: a number, which is 0 of an answer that is no refusal and else
+-- the refusal's number of document 01, and eight words beside it, zeros where nothing is said. "If an answer is an
+-- enum, a definition tells you this paper's number and values for each of its cases."
 use Prim.Native.Nat.{ℕ, _%_, _^_}
 use mathlib.Core.Bool.{Bool}
 use mathlib.Core.List.{List, [], _∷_, _++_}
@@ -91,8 +91,9 @@ variantCode (I.U128 v) = 9
 abbrev pub integerWords : Integer → IntegerWords
 integerWords x = record { variant = variantCode x; value = wideOf (value x) }
 
--- The bits of a float's value at its own width, which are those that are stored but of a binary16, one of argument 1: "Two
--- bytes read as an F32", and "A binary16 NaN reads as sign kept, exponent all ones, quiet bit set, fraction shifted up by 13".
+-- The bits of a float's value at its own width, which are those that are stored but of a binary16, one of argument 1:
+-- "Two bytes read as an F32", and "A binary16 NaN reads as sign kept, exponent all ones, quiet bit set, fraction
+-- shifted up by 13".
 abbrev pub valueBits : ℕ → ℕ → ℕ
 valueBits arg stored = pick (eqb arg 1) (widened half single (stored % 2 ^ 16)) stored
 
@@ -105,7 +106,8 @@ floatWords arg (F.F64 x) stored = record { case = 3; first = 8; second = stored;
 abbrev pub nucleusWords : ℕ → Nucleus → NucleusWords
 nucleusWords arg N.None = record { case = 0; first = 0; second = 0; third = 0 }
 nucleusWords arg (N.Boolean b) = record { case = 1; first = pick b 1 0; second = 0; third = 0 }
-nucleusWords arg (N.Integer x) = record { case = 2; first = variantCode x; second = wideOf (value x) .lo; third = wideOf (value x) .hi }
+nucleusWords arg (N.Integer x) =
+    record { case = 2; first = variantCode x; second = wideOf (value x) .lo; third = wideOf (value x) .hi }
 nucleusWords arg (N.Float x stored) = floatWords arg x stored
 nucleusWords arg (N.Bytes m) = record { case = 4; first = m .start; second = m .len; third = pick (m .lent) 1 0 }
 nucleusWords arg N.Unit = record { case = 5; first = 0; second = 0; third = 0 }
@@ -131,10 +133,11 @@ saidSkipped (SK.Refused p b r) = says (refusalNumber r) (p .0) (b .0) (datum 0 r
 -- a run: place, budget, atoms; of a refused atom also where it starts, and the refusal's data
 unfoldable pub saidRan : Ran → Said
 saidRan (RN.Done p b atoms) = says 0 (p .0) (b .0) atoms 0 0 0 0 0
-saidRan (RN.Stopped p b atoms r start) = says (refusalNumber r) (p .0) (b .0) atoms (start .0) (datum 0 r) (datum 1 r) 0 0
+saidRan (RN.Stopped p b atoms r start) =
+    says (refusalNumber r) (p .0) (b .0) atoms (start .0) (datum 0 r) (datum 1 r) 0 0
 
--- a tally: atoms, body bytes, charge, letters; or where the refused atom starts, 0 where the input is refused as a whole,
--- and the refusal's data
+-- a tally: atoms, body bytes, charge, letters; or where the refused atom starts, 0 where the input is refused as a
+-- whole, and the refusal's data
 unfoldable pub saidTally : TallyAnswer → Said
 saidTally (TA.Done t) = says 0 (t .atoms) (t .body .0) (t .charge) (t .letters) 0 0 0 0
 saidTally (TA.Stopped start r) = says (refusalNumber r) (start .0) (datum 0 r) (datum 1 r) 0 0 0 0 0

@@ -1,0 +1,130 @@
+// The requests about an atom and the budget, answered from the proved functions: 20, 27 and 28 of oracle/FORMAT.md. Test
+// machinery: proved is that every request is taken and every answer ends.
+use replay_wire::Cursor;
+use replay_wire::Reply;
+use types::Atom;
+use types::AtomAnswer;
+use types::Budget;
+use types::BudgetAnswer;
+use types::Nucleus;
+use types::Place;
+use types::Refusal;
+
+fn put_budget(out: &mut [u8], reply: Reply, budget: Budget) -> Reply {
+    replay_wire::put_word(out, reply, budget.0)
+}
+
+// Puts the code of a nucleus, and what it holds. Of a float, the argument tells the bytes that are stored.
+fn put_nucleus(out: &mut [u8], reply: Reply, nucleus: Nucleus, arg: u64, scratch: &[u8]) -> Reply {
+    match nucleus {
+        Nucleus::None => return replay_wire::put_word(out, reply, 0),
+        Nucleus::Boolean(truth) => {
+            let code = replay_wire::put_word(out, reply, 1);
+            return replay_wire::put_word(out, code, truth as u64);
+        }
+        Nucleus::Integer(value) => {
+            let code = replay_wire::put_word(out, reply, 2);
+            return replay_wire_numbers::put_integer(out, code, value);
+        }
+        Nucleus::Float(value, bits) => {
+            let code = replay_wire::put_word(out, reply, 3);
+            return replay_wire_numbers::put_read_float(out, code, value, atom::count_of(arg), bits);
+        }
+        Nucleus::Bytes(mark) => {
+            let code = replay_wire::put_word(out, reply, 4);
+            return replay_wire::put_string(out, code, mark, scratch);
+        }
+        Nucleus::Unit => return replay_wire::put_word(out, reply, 5),
+        Nucleus::Named => return replay_wire::put_word(out, reply, 6),
+        Nucleus::DynamicMap => return replay_wire::put_word(out, reply, 7),
+        Nucleus::DynamicEnd => return replay_wire::put_word(out, reply, 8),
+    }
+}
+
+// Puts an atom: its kind, its argument, what it holds.
+fn put_atom(out: &mut [u8], reply: Reply, read: Atom, scratch: &[u8]) -> Reply {
+    let kind = read.kind;
+    let nucleus = read.nucleus;
+    let kinded = replay_wire::put_kind(out, reply, kind);
+    let put = replay_wire::put_word(out, kinded, read.arg);
+    put_nucleus(out, put, nucleus, read.arg, scratch)
+}
+
+// Puts the refusal of an atom: its number, the place, the budget, then its data.
+fn refused(out: &mut [u8], reply: Reply, place: Place, budget: Budget, refusal: Refusal) -> Reply {
+    let numbered = replay_wire::put_word(out, reply, refusal.number());
+    let placed = replay_wire::put_place(out, numbered, place);
+    let put = put_budget(out, placed, budget);
+    replay_wire::put_data(out, put, refusal)
+}
+
+// Puts what an atom read answered.
+pub fn put_answer(out: &mut [u8], reply: Reply, answer: AtomAnswer, scratch: &[u8]) -> Reply {
+    match answer {
+        AtomAnswer::Read(place, left, read) => {
+            let placed = replay_wire::taken_at(out, reply, place);
+            let put = put_budget(out, placed, left);
+            return put_atom(out, put, read, scratch);
+        }
+        AtomAnswer::Refused(place, left, refusal) => {
+            return refused(out, reply, place, left, refusal);
+        }
+    }
+}
+
+fn read_atom(
+    text: &[u8],
+    cursor: Cursor,
+    bytes: &mut [u8],
+    scratch: &mut [u8],
+    out: &mut [u8],
+) -> Reply {
+    let budget = replay_wire::read_word(text, cursor);
+    let asked = replay_wire::read_source(text, budget.cursor, bytes);
+    let reply = replay_wire::begin(text, asked.cursor);
+    let count = asked.count;
+    let place = asked.place;
+    let way = asked.way;
+    let given = Budget(budget.value);
+    let answer = atom::read_atom_by(&bytes[0..count], place, given, scratch, way);
+    put_answer(out, reply, answer, scratch)
+}
+
+fn update_budget(text: &[u8], cursor: Cursor, out: &mut [u8]) -> Reply {
+    let budget = replay_wire::read_word(text, cursor);
+    let amount = replay_wire::read_word(text, budget.cursor);
+    let reply = replay_wire::begin(text, amount.cursor);
+    match atom::update_budget(Budget(budget.value), amount.value) {
+        BudgetAnswer::Left(left) => {
+            let taken = replay_wire::put_word(out, reply, 0);
+            return put_budget(out, taken, left);
+        }
+        BudgetAnswer::Refused(refusal) => {
+            return replay_wire::refused(out, reply, refusal);
+        }
+    }
+}
+
+fn in_memory_int_size(text: &[u8], cursor: Cursor, out: &mut [u8]) -> Reply {
+    let count = replay_wire::read_word(text, cursor);
+    let reply = replay_wire::begin(text, count.cursor);
+    let taken = replay_wire::put_word(out, reply, 0);
+    replay_wire::put_word(out, taken, atom::in_memory_int_size(count.value))
+}
+
+// Answers a request of this crate's codes, whose code was read. `bytes` holds its source, `scratch` a copied string.
+pub fn answer(
+    code: u64,
+    text: &[u8],
+    cursor: Cursor,
+    bytes: &mut [u8],
+    scratch: &mut [u8],
+    out: &mut [u8],
+) -> Reply {
+    match code {
+        0x20 => read_atom(text, cursor, bytes, scratch, out),
+        0x27 => update_budget(text, cursor, out),
+        0x28 => in_memory_int_size(text, cursor, out),
+        _ => replay_wire::none(),
+    }
+}
