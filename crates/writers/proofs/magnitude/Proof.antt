@@ -7,4 +7,4 @@ pub magnitude-spec : {M : Type 1} → statement M
 magnitude-spec =
     tie.close
     (tie.spec
-    (λ c. search sign-ends) (λ c. search sign-ends) (λ c. search sign-ends) (λ c. search sign-ends))
+    (λ c. search sign-ends) (λ c. search sign-ends fits 300) (λ c. search sign-ends) (λ c. search sign-ends fits 300))

@@ -7,6 +7,6 @@ pub write-bytes-spec : {M : Type 1} → statement M
 write-bytes-spec =
     tie.close
     (tie.spec
-    (λ c κs. search string-ends) (λ c. search string-ends) (λ c κs. search string-ends) (λ c. search string-ends)
-    (λ c κs. search string-ends) (λ c. search string-ends) (λ c. search string-ends) (λ c. search string-ends)
-    (λ c κs. search string-ends) (λ c. search string-ends) (λ c. search string-ends))
+    (λ c κs. search string-ends) (λ c. search string-ends) (λ c κs. search string-ends)
+    (λ c. search string-ends fits 300) (λ c κs. search string-ends) (λ c. search string-ends) (λ c. search string-ends)
+    (λ c. search string-ends) (λ c κs. search string-ends) (λ c. search string-ends) (λ c. search string-ends fits 300))

@@ -7,4 +7,5 @@ pub write-i8-spec : {M : Type 1} → statement M
 write-i8-spec =
     tie.close
     (tie.spec
-    (λ c κs. search signed-ends) (λ c κs. search signed-ends) (λ c. search signed-ends) (λ c. search signed-ends))
+    (λ c κs. search signed-ends) (λ c κs. search signed-ends) (λ c. search signed-ends)
+    (λ c. search signed-ends fits 300))

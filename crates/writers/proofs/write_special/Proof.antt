@@ -7,4 +7,5 @@ pub write-special-spec : {M : Type 1} → statement M
 write-special-spec =
     tie.close
     (tie.spec
-    (λ c κs. search special-ends) (λ c κs. search special-ends) (λ c. search special-ends) (λ c. search special-ends))
+    (λ c κs. search special-ends) (λ c κs. search special-ends) (λ c. search special-ends)
+    (λ c. search special-ends fits 300))

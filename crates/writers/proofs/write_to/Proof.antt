@@ -6,11 +6,11 @@ use Rattle.writers.proofs.write_to.Tie as tie
 
 returns : tie.Need-returns
 unfolding valueBytes
-returns c = search variant-ends
+returns c = search variant-ends fits 300
 
 returns-5 : tie.Need-returns-5
 unfolding valueBytes
-returns-5 c = search variant-ends
+returns-5 c = search variant-ends fits 300
 
 pub write-to-spec : {M : Type 1} → statement M
 unfolding valueBytes
@@ -18,12 +18,15 @@ write-to-spec =
     tie.close
     (tie.spec
     (λ c. search variant-ends) (λ c κs. search variant-ends) (λ c. search variant-ends) returns
-    (λ c. search variant-ends) (λ c κs. search variant-ends) (λ c. search variant-ends) (λ c. search variant-ends)
-    (λ c. search variant-ends) (λ c κs. search variant-ends) (λ c. search variant-ends) (λ c. search variant-ends)
-    (λ c. search variant-ends) (λ c κs. search variant-ends) (λ c. search variant-ends) (λ c. search variant-ends)
+    (λ c. search variant-ends) (λ c κs. search variant-ends) (λ c. search variant-ends)
+    (λ c. search variant-ends fits 300) (λ c. search variant-ends) (λ c κs. search variant-ends)
+    (λ c. search variant-ends) (λ c. search variant-ends fits 300) (λ c. search variant-ends)
+    (λ c κs. search variant-ends) (λ c. search variant-ends) (λ c. search variant-ends fits 300)
     (λ c. search variant-ends) (λ c κs. search variant-ends) (λ c. search variant-ends) returns-5
-    (λ c. search variant-ends) (λ c κs. search variant-ends) (λ c. search variant-ends) (λ c. search variant-ends)
-    (λ c. search variant-ends) (λ c κs. search variant-ends) (λ c. search variant-ends) (λ c. search variant-ends)
-    (λ c. search variant-ends) (λ c κs. search variant-ends) (λ c. search variant-ends) (λ c. search variant-ends)
-    (λ c. search variant-ends) (λ c κs. search variant-ends) (λ c. search variant-ends) (λ c. search variant-ends)
-    (λ c. search variant-ends) (λ c κs. search variant-ends) (λ c. search variant-ends) (λ c. search variant-ends))
+    (λ c. search variant-ends) (λ c κs. search variant-ends) (λ c. search variant-ends)
+    (λ c. search variant-ends fits 300) (λ c. search variant-ends) (λ c κs. search variant-ends)
+    (λ c. search variant-ends) (λ c. search variant-ends fits 300) (λ c. search variant-ends)
+    (λ c κs. search variant-ends) (λ c. search variant-ends) (λ c. search variant-ends fits 300)
+    (λ c. search variant-ends) (λ c κs. search variant-ends) (λ c. search variant-ends)
+    (λ c. search variant-ends fits 300) (λ c. search variant-ends) (λ c κs. search variant-ends)
+    (λ c. search variant-ends) (λ c. search variant-ends fits 300))

@@ -7,4 +7,4 @@ pub write-u8-spec : {M : Type 1} → statement M
 write-u8-spec =
     tie.close
     (tie.spec
-    (λ c κs. search unsigned-ends) (λ c. search unsigned-ends) (λ c. search unsigned-ends))
+    (λ c κs. search unsigned-ends) (λ c. search unsigned-ends) (λ c. search unsigned-ends fits 300))
