@@ -8,4 +8,4 @@ pot-f64-as-integer-spec =
     tie.close
     (tie.spec
     (λ c κs. search say-ends) (λ c κs. search say-ends) (λ c κs. search say-ends) (λ c. search say-ends)
-    (λ c. search say-ends))
+    (λ c. search say-ends fits 300))

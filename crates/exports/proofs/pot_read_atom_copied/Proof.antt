@@ -4,7 +4,7 @@ use Rattle.exports.proofs.pot_read_atom_copied.Statement.{statement}
 use Rattle.exports.proofs.pot_read_atom_copied.Tie as tie
 
 returns : tie.Need-returns
-returns c = (search copy-ends, (search copy-ends, search copy-ends))
+returns c = (search copy-ends fits 300, (search copy-ends fits 300, search copy-ends fits 300))
 
 pub pot-read-atom-copied-spec : {M : Type 1} → statement M
 pot-read-atom-copied-spec =

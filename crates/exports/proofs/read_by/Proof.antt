@@ -8,4 +8,4 @@ read-by-spec =
     tie.close
     (tie.spec
     (λ c κs. search say-ends) (λ c κs. search say-ends) (λ c. search say-ends) (λ c. search say-ends)
-    (λ c. (search say-ends, (search say-ends, search say-ends))))
+    (λ c. (search say-ends fits 300, (search say-ends fits 300, search say-ends fits 300))))
