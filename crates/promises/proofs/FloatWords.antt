@@ -11,7 +11,8 @@ use lib.ListN.{length, getD}
 use lib.Ieee as Ieee
 use lib.Ieee.{binary32, binary64, ofBits}
 use Rattle.types.specs.Choice.{pick}
-use Rattle.types.specs.Kinds.{kindCode, specialFrom}
+use Rattle.types.specs.Kinds.{kindCode, specialFrom, specialKnown}
+use Rattle.types.specs.Forms.{countOf, allowedFloat, known, chargeOf, unknown}
 use Rattle.types.specs.Ways.{exact}
 use Rattle.types.specs.declared.Way.{Way}
 use Rattle.types.specs.declared.Kind.{Kind}
@@ -22,9 +23,8 @@ use Rattle.types.specs.declared.Float.{Float}
 use Rattle.types.specs.declared.Float.the-variants as F
 use Rattle.types.specs.declared.Nucleus.{Nucleus}
 use Rattle.types.specs.declared.Nucleus.the-variants as N
+use Rattle.types.specs.declared.Special.{Special}
 use Rattle.types.specs.declared.Special.the-variants as S
-use Rattle.types.specs.declared.SpecialAnswer.{SpecialAnswer}
-use Rattle.types.specs.declared.SpecialAnswer.the-variants as SA
 use Rattle.types.specs.declared.HeaderAnswer.{HeaderAnswer}
 use Rattle.types.specs.declared.HeaderAnswer.the-variants as H
 use Rattle.types.specs.declared.BudgetAnswer.{BudgetAnswer}
@@ -37,23 +37,24 @@ use Rattle.types.specs.declared.BytesAnswer.{BytesAnswer}
 use Rattle.types.specs.declared.BytesAnswer.the-variants as B
 use Rattle.types.specs.declared.AtomAnswer.{AtomAnswer}
 use Rattle.types.specs.declared.AtomAnswer.the-variants as A
+use Rattle.types.specs.declared.Refusal.{Refusal}
 use Rattle.types.specs.declared.Refusal.the-variants as R
 use Rattle.header.specs.Header.{headerRead}
 use Rattle.reader.specs.Strings.{stringAnswer}
 use Rattle.little.specs.Le.{numberAt}
 use Rattle.little.proofs.At.{number-lt}
-use Rattle.integer.specs.Integers as Integers
+use Rattle.integer.specs.Integers.{integerBody}
 use Rattle.binary.specs.Formats.{half, single, double, meaning}
 use Rattle.binary.specs.Conversions.{widened}
 use Rattle.binary.specs.Floats.{plain}
 use Rattle.binary.proofs.Values.{ofBits-means}
-use Rattle.float.specs.Floats.{allowedFloat, layoutAt, floatOf, floatBody, floatFrom}
+use Rattle.float.specs.Floats.{layoutAt, floatOf, floatBody}
 use Rattle.float.specs.Values.{floatMeans}
 use Rattle.float.proofs.Counts.{Allowed, two, four, eight, allowed-is}
 use Rattle.float.proofs.Stored.{float-means}
-use Rattle.atom.specs.Charges.{countOf, budgetAfter, numberCharge}
-use Rattle.atom.specs.Atoms.{atomOf, specialAtom, charged, integerAtom, floatAtom, bytesAtom, integerAfter, floatAfter}
-use Rattle.atom.specs.Atoms.{bytesAfter, atomFrom, atomRead}
+use Rattle.atom.specs.Charges.{budgetAfter}
+use Rattle.atom.specs.Atoms.{atomOf, specialNucleus, charged, judged, integerAtom, floatAtom, bytesAtom, headerTaken}
+use Rattle.atom.specs.Atoms.{bodyTaken, atomFrom, atomRead}
 use Rattle.words.specs.declared.NucleusWords.{NucleusWords}
 use Rattle.words.specs.Layout.{atomSaid, saidAtom, floatWords, valueBits}
 
@@ -75,21 +76,25 @@ abbrev AllKnown : AtomAnswer → Type 0
 AllKnown (A.Read p b a) = Known (a .arg) (a .nucleus)
 AllKnown (A.Refused p b r) = Unit {0}
 
-special-known : (arg : ℕ) (next : Place) (budget : Budget) (a : SpecialAnswer) →
-    AllKnown (specialAtom arg next budget a)
-special-known arg next budget (SA.Refused r) = tt
-special-known arg next budget (SA.Known S.None) = tt
-special-known arg next budget (SA.Known S.Unit) = tt
-special-known arg next budget (SA.Known S.False) = tt
-special-known arg next budget (SA.Known S.True) = tt
-special-known arg next budget (SA.Known S.Named) = tt
-special-known arg next budget (SA.Known S.DynamicMap) = tt
-special-known arg next budget (SA.Known S.DynamicEnd) = tt
+special-known : (arg : ℕ) (next : Place) (rest : Budget) (special : Special) →
+    AllKnown (headerTaken K.Special arg next (specialNucleus special) rest)
+special-known arg next rest S.None = tt
+special-known arg next rest S.Unit = tt
+special-known arg next rest S.False = tt
+special-known arg next rest S.True = tt
+special-known arg next rest S.Named = tt
+special-known arg next rest S.DynamicMap = tt
+special-known arg next rest S.DynamicEnd = tt
 
 charged-known : (next : Place) (budget : Budget) (b : BudgetAnswer) (body : Budget → AtomAnswer) →
     ((rest : Budget) → AllKnown (body rest)) → AllKnown (charged next budget b body)
 charged-known next budget (BA.Left rest) body h = h rest
 charged-known next budget (BA.Refused r) body h = tt
+
+picked-known : (k : Bool) (a : AtomAnswer) (p : Place) (rest : Budget) (r : Refusal) → (k ≡ true → AllKnown a) →
+    AllKnown (pick k a (A.Refused p rest r))
+picked-known true a p rest r h = h refl
+picked-known false a p rest r h = tt
 
 integer-known : (kind : Kind) (arg : ℕ) (rest : Budget) (a : IntegerAnswer) → AllKnown (integerAtom kind arg rest a)
 integer-known kind arg rest (IA.Read p x) = tt
@@ -115,44 +120,35 @@ module _ (s : List ℕ) (fits : (i : ℕ) → getD s i 0 < 256) where
     body-known p q end false true a = tt
     body-known p q end false false a = read-known q a
 
-    counted-known : (way : Way) (t : Bool) → allowedFloat (countOf arg) ≡ t →
-        AllKnown (floatAtom arg rest (pick t (floatBody way s at (countOf arg))
-        (FA.Refused (record { 0 = at }) (R.UnsupportedByteCount K.Float (countOf arg)))))
+    float-known : (way : Way) → allowedFloat (countOf arg) ≡ true →
+        AllKnown (floatAtom arg rest (floatBody way s at (countOf arg)))
     unfolding floatBody
-    counted-known way true e =
+    float-known way e =
         body-known (record { 0 = at + countOf arg }) (record { 0 = length s }) (record { 0 = length s })
         (leb (at + countOf arg) (length s)) (exact way) (allowed-is (countOf arg) e)
-    counted-known way false e = tt
-
-    float-known : (way : Way) → AllKnown (floatAtom arg rest (floatFrom way s at K.Float (countOf arg)))
-    unfolding floatFrom
-    float-known way = counted-known way (allowedFloat (countOf arg)) refl
 
   module _ (way : Way) (budget : Budget) (scratch : List ℕ) where
-    number-known : (kind : Kind) (arg : ℕ) (next : Place) → AllKnown (integerAfter way s kind arg next budget)
-    unfolding integerAfter
-    number-known kind arg next =
-        charged-known next budget (budgetAfter budget (numberCharge (countOf arg)))
-        (λ rest. integerAtom kind arg rest (Integers.integerFrom way s (next .0) kind (countOf arg)))
-        (λ rest. integer-known kind arg rest (Integers.integerFrom way s (next .0) kind (countOf arg)))
+    taken-known : (kind : Kind) (arg : ℕ) (next : Place) (rest : Budget) → known kind arg ≡ true →
+        AllKnown (bodyTaken way s kind arg next scratch rest)
+    taken-known K.Special arg next rest e = special-known arg next rest (specialKnown (specialFrom arg))
+    taken-known K.Int arg next rest e = integer-known K.Int arg rest (integerBody way s (next .0) K.Int (countOf arg))
+    taken-known K.UInt arg next rest e =
+        integer-known K.UInt arg rest (integerBody way s (next .0) K.UInt (countOf arg))
+    taken-known K.Float arg next rest e = float-known arg (next .0) rest way e
+    taken-known K.Sequence arg next rest e = tt
+    taken-known K.Map arg next rest e = tt
+    taken-known K.Symbol arg next rest e = tt
+    taken-known K.Bytes arg next rest e = bytes-known arg rest (stringAnswer way s (next .0) arg scratch)
 
     after-known : (h : HeaderAnswer) → AllKnown (atomFrom way s budget scratch h)
-    unfolding floatAfter bytesAfter
+    unfolding judged
     after-known (H.Refused p r) = tt
-    after-known (H.Read next K.Special arg) = special-known arg next budget (specialFrom arg)
-    after-known (H.Read next K.Int arg) = number-known K.Int arg next
-    after-known (H.Read next K.UInt arg) = number-known K.UInt arg next
-    after-known (H.Read next K.Float arg) =
-        charged-known next budget (budgetAfter budget (numberCharge (countOf arg)))
-        (λ rest. floatAtom arg rest (floatFrom way s (next .0) K.Float (countOf arg)))
-        (λ rest. float-known arg (next .0) rest way)
-    after-known (H.Read next K.Sequence arg) = tt
-    after-known (H.Read next K.Map arg) = tt
-    after-known (H.Read next K.Symbol arg) = tt
-    after-known (H.Read next K.Bytes arg) =
-        charged-known next budget (budgetAfter budget arg)
-        (λ rest. bytesAtom arg rest (stringAnswer way s (next .0) arg scratch))
-        (λ rest. bytes-known arg rest (stringAnswer way s (next .0) arg scratch))
+    after-known (H.Read next kind arg) =
+        charged-known next budget (budgetAfter budget (chargeOf kind arg))
+        (λ rest. pick (known kind arg) (bodyTaken way s kind arg next scratch rest)
+        (A.Refused next rest (unknown kind arg)))
+        (λ rest. picked-known (known kind arg) (bodyTaken way s kind arg next scratch rest) next rest
+        (unknown kind arg) (taken-known kind arg next rest))
 
     atom-known : (place : ℕ) → AllKnown (atomRead way s place budget scratch)
     unfolding atomRead
@@ -218,5 +214,5 @@ pub float-words : (way : Way) (s : List ℕ) (place : ℕ) (budget : Budget) (sc
     ≡ atomSaid (p .0) (b .0) (kindCode kind) arg (floatWords arg x stored)) × Means arg x (floatWords arg x stored)
 unfolding saidAtom
 float-words way s place budget scratch fits p b kind arg x stored word e =
-    let known : Known arg (N.Float x stored) = subst AllKnown e (atom-known s fits way budget scratch place) in
-    (ap saidAtom e, means-by arg stored word (known .1) (known .0) x (known .2))
+    let held : Known arg (N.Float x stored) = subst AllKnown e (atom-known s fits way budget scratch place) in
+    (ap saidAtom e, means-by arg stored word (held .1) (held .0) x (held .2))
