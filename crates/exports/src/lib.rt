@@ -66,7 +66,7 @@ fn read_by(
     ensures { λ r. ⌜ now (words .exit) ≡ wordsOf (saidAtom (atomRead way (now (source .entry)) place (record { 0 = budget }) (now (scratch .entry)))) (now (words .entry)) ⌝ }
     ensures { λ r. ⌜ now (scratch .exit) ≡ atomScratch way (now (source .entry)) place (record { 0 = budget }) (now (scratch .entry)) ⌝ }
 {
-    let answer = atom::read_atom_by(source, Place(place), Budget(budget), scratch, way);
+    let answer = atom::read_atom_by(&source[0..], Place(place), Budget(budget), scratch, way);
     words::say_atom(words, answer)
 }
 
