@@ -54,6 +54,7 @@ fn granted(words: usize, room: usize) -> usize
 
 // Reads an atom under a way: the one place that calls the reader. The words stand first, so that they go in registers:
 // where a caller laid their address and number on the stack one by one, to pass both on in one move would have to wait.
+// The source is lent whole, as a part of itself, so that its address and length are read at once, and go in registers too.
 fn read_by(
     words: &mut [u64],
     source: &[u8],
