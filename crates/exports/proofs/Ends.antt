@@ -9,7 +9,7 @@ use borrow.Author.Tests.{lt-ltb, le-ltb}
 use lib.Dec.{ltb}
 use mir.Facts.{toZ-ofZ}
 use lib.ListN.{length, take, drop}
-use lib.Seq.{take-length, drop-length}
+use lib.Seq.{take-length, take-all, drop-length}
 use Rattle.types.specs.Choice.{pick}
 use Rattle.types.specs.declared.Integer.{Integer}
 use Rattle.types.specs.declared.Refusal.{Refusal}
@@ -276,3 +276,18 @@ pub ruleset held-ends = (within, held-number, held-words, held-left, few)
 pub ruleset copy-ends = (within, atom-number, atom-words, atom-left, few)
 
 pub ruleset code-ends = (lent, number-said, words-said, unwritten, refused-said, of-integer, of-kind, of-special, few)
+
+-- the source lent whole, as a part of itself, is the source
+module _ (way : Way) (s : List ℕ) (place : ℕ) (budget : Budget) (t : List ℕ) where
+  whole : take (length s - 0) s ≡ s
+  whole = take-all (length s - 0) s (omega arith)
+
+  pub whole-read : (a : AtomAnswer) → a ≡ atomRead way (take (length s - 0) s) place budget t →
+      a ≡ atomRead way s place budget t
+  whole-read a e = e ∙ ap (λ (l : List ℕ). atomRead way l place budget t) whole
+
+  pub whole-scratch : (left : List ℕ) → left ≡ atomScratch way (take (length s - 0) s) place budget t →
+      left ≡ atomScratch way s place budget t
+  whole-scratch left e = e ∙ ap (λ (l : List ℕ). atomScratch way l place budget t) whole
+
+pub ruleset read-ends = (number-said, words-said, atom-said, whole-read, whole-scratch, needs)

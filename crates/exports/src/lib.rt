@@ -54,6 +54,7 @@ fn granted(words: usize, room: usize) -> usize
 
 // Reads an atom under a way: the one place that calls the reader. The words stand first, so that they go in registers:
 // where a caller laid their address and number on the stack one by one, to pass both on in one move would have to wait.
+// The source is lent whole, as a part of itself, so that its address and length are read at once, and go in registers too.
 fn read_by(
     words: &mut [u64],
     source: &[u8],
@@ -66,7 +67,7 @@ fn read_by(
     ensures { λ r. ⌜ now (words .exit) ≡ wordsOf (saidAtom (atomRead way (now (source .entry)) place (record { 0 = budget }) (now (scratch .entry)))) (now (words .entry)) ⌝ }
     ensures { λ r. ⌜ now (scratch .exit) ≡ atomScratch way (now (source .entry)) place (record { 0 = budget }) (now (scratch .entry)) ⌝ }
 {
-    let answer = atom::read_atom_by(source, Place(place), Budget(budget), scratch, way);
+    let answer = atom::read_atom_by(&source[0..], Place(place), Budget(budget), scratch, way);
     words::say_atom(words, answer)
 }
 
