@@ -4,8 +4,6 @@ use std::io;
 
 use crate::error::Error;
 use crate::format::{self, read_atom, Atom, InnerFloat, InnerInteger, Kind, Nucleus, Special};
-#[cfg(feature = "exports")]
-use crate::proved::Way;
 use crate::proved::Writer;
 use crate::reader::{IoReader, Reader, SliceReader};
 use crate::{Found, Tally};
@@ -147,33 +145,62 @@ fn count_letters(bytes: &[u8]) -> u64 {
     bytes.iter().filter(|byte| !(0x80..=0xbf).contains(*byte)).count() as u64
 }
 
-/// One atom behind the boundary that the library's exports have: 0 or 4, the refusal of a cut file, and eight words. The
-/// stored bits of a float, which the original does not keep, are left 0.
+/// One atom behind a boundary as the library's exports have it: C's calling convention, slices as an address and a number,
+/// 0 or a refusal's number as the answer (4 stands for all of the original's), and eight words. Its reader copies strings
+/// into a `Vec`, which it is handed as one.
 #[cfg(feature = "exports")]
-#[inline(never)]
-pub fn read_one(
-    source: &[u8],
+pub type ReadOne = unsafe extern "C" fn(*const u8, usize, usize, u64, &mut Vec<u8>, *mut u64, usize) -> u64;
+
+/// Reads an atom by the reader that fills.
+///
+/// # Safety
+/// Each address comes with the number of what is there.
+#[cfg(feature = "exports")]
+pub unsafe extern "C" fn read_one_filled(
+    source: *const u8,
+    source_len: usize,
     place: usize,
     budget: u64,
     scratch: &mut Vec<u8>,
-    way: Way,
-    words: &mut [u64; 8],
+    words: *mut u64,
+    words_len: usize,
 ) -> u64 {
-    let rest = &source[place.min(source.len())..];
-    match way {
-        Way::Filled => say(source, SliceReader::from(rest), budget, scratch, words),
-        Way::ExactLent | Way::ExactCopied => say(source, IoReader::new(rest), budget, scratch, words),
-    }
+    let source = std::slice::from_raw_parts(source, source_len);
+    let words = std::slice::from_raw_parts_mut(words, words_len);
+    say(source, SliceReader::from(&source[place.min(source_len)..]), budget, scratch, words)
 }
 
+/// Reads an atom by the reader that refuses what is cut.
+///
+/// # Safety
+/// As of `read_one_filled`.
+#[cfg(feature = "exports")]
+pub unsafe extern "C" fn read_one_exact(
+    source: *const u8,
+    source_len: usize,
+    place: usize,
+    budget: u64,
+    scratch: &mut Vec<u8>,
+    words: *mut u64,
+    words_len: usize,
+) -> u64 {
+    let source = std::slice::from_raw_parts(source, source_len);
+    let words = std::slice::from_raw_parts_mut(words, words_len);
+    say(source, IoReader::new(&source[place.min(source_len)..]), budget, scratch, words)
+}
+
+/// The answer's number and its words; the stored bits of a float, which the original does not keep, are left 0.
 #[cfg(feature = "exports")]
 fn say<'a>(
     source: &'a [u8],
     mut reader: impl Source<'a>,
     budget: u64,
     scratch: &mut Vec<u8>,
-    words: &mut [u64; 8],
+    words: &mut [u64],
 ) -> u64 {
+    let Some(words) = words.first_chunk_mut::<8>() else {
+        return 9;
+    };
     let mut budget = budget as usize;
     let Ok(atom) = read_atom(&mut reader, &mut budget, scratch) else {
         return 4;

@@ -144,26 +144,31 @@ extern "C" {
     ) -> u64;
 }
 
-/// One atom through the exports.
+/// One atom through the exports, by the way that names none.
 #[cfg(feature = "exports")]
-pub fn read_one(
+pub fn read_one_filled(source: &[u8], place: usize, budget: u64, words: &mut [u64; 8]) -> u64 {
+    // SAFETY: each pointer comes with the length of its own live slice, and the mutable one is distinct.
+    unsafe { pot_read_atom(source.as_ptr(), source.len(), place, budget, words.as_mut_ptr(), words.len()) }
+}
+
+/// One atom exactly, a string lent.
+#[cfg(feature = "exports")]
+pub fn read_one_exact(source: &[u8], place: usize, budget: u64, words: &mut [u64; 8]) -> u64 {
+    // SAFETY: as above.
+    unsafe { pot_read_atom_exact(source.as_ptr(), source.len(), place, budget, words.as_mut_ptr(), words.len()) }
+}
+
+/// One atom exactly, a string copied.
+#[cfg(feature = "exports")]
+pub fn read_one_copied(
     source: &[u8],
     place: usize,
     budget: u64,
     scratch: &mut [u8],
-    way: Way,
     words: &mut [u64; 8],
 ) -> u64 {
     let (at, length) = (source.as_ptr(), source.len());
-    // SAFETY: each pointer comes with the length of its own live slice, and the mutable ones are distinct.
-    unsafe {
-        match way {
-            Way::Filled => pot_read_atom(at, length, place, budget, words.as_mut_ptr(), 8),
-            Way::ExactLent => pot_read_atom_exact(at, length, place, budget, words.as_mut_ptr(), 8),
-            Way::ExactCopied => {
-                let (room, size) = (scratch.as_mut_ptr(), scratch.len());
-                pot_read_atom_copied(at, length, place, budget, room, size, words.as_mut_ptr(), 8)
-            }
-        }
-    }
+    let (room, size) = (scratch.as_mut_ptr(), scratch.len());
+    // SAFETY: as above; the two mutable ones are distinct.
+    unsafe { pot_read_atom_copied(at, length, place, budget, room, size, words.as_mut_ptr(), words.len()) }
 }

@@ -32,48 +32,73 @@ fn file(race: &mut Race, name: &str, source: &[u8]) {
     race.row(name, "tally, Rust filled", atoms, tally, || proved::tally(source).ok());
 }
 
-/// A file atom by atom, a call for each, the original behind the same boundary as the library's exports. The words that the
-/// two lay alike are folded: of a copied string its length alone.
+/// A file atom by atom, a call for each, the original behind the same boundary as the library's exports.
 #[cfg(feature = "exports")]
 fn boundary(race: &mut Race, name: &str, source: &[u8]) {
+    let mut scratch = vec![0; 1 << 16];
+    calls(race, name, "filled", source, false, original::read_one_filled, |place, budget, words| {
+        proved::read_one_filled(source, place, budget, words)
+    });
+    calls(race, name, "exact, lent", source, false, original::read_one_exact, |place, budget, words| {
+        proved::read_one_exact(source, place, budget, words)
+    });
+    calls(race, name, "exact, copied", source, true, original::read_one_exact, |place, budget, words| {
+        proved::read_one_copied(source, place, budget, &mut scratch, words)
+    });
+}
+
+/// One way of them.
+#[cfg(feature = "exports")]
+#[inline(always)]
+fn calls(
+    race: &mut Race,
+    name: &str,
+    what: &str,
+    source: &[u8],
+    copied: bool,
+    original: original::ReadOne,
+    mut library: impl FnMut(usize, u64, &mut [u64; 8]) -> u64,
+) {
     let atoms = proved::run(source, BUDGET).expect("the file is whole").atoms as usize;
-    let theirs = RefCell::new(Vec::new());
-    let ours = RefCell::new(vec![0; 1 << 16]);
-    for (what, way) in
-        [("filled", Way::Filled), ("exact, lent", Way::ExactLent), ("exact, copied", Way::ExactCopied)]
-    {
-        let rust = || {
-            let scratch = &mut theirs.borrow_mut();
-            whole(source, way, |place, budget, words| original::read_one(source, place, budget, scratch, way, words))
-        };
-        let library = || {
-            let scratch = &mut ours.borrow_mut();
-            whole(source, way, |place, budget, words| proved::read_one(source, place, budget, scratch, way, words))
-        };
-        race.row(name, &format!("a call an atom, {what}"), atoms, rust, library);
-    }
+    let mut scratch = Vec::new();
+    // Behind a boundary a caller does not know the function, and can't have it made for its own arguments.
+    let read = std::hint::black_box(original);
+    let mut rust = |place, budget, words: &mut [u64; 8]| {
+        let (at, length) = (source.as_ptr(), source.len());
+        // SAFETY: each address comes with the number of what is there.
+        unsafe { read(at, length, place, budget, &mut scratch, words.as_mut_ptr(), words.len()) }
+    };
+    let rust = || whole(source, copied, &mut rust);
+    race.row(name, &format!("a call an atom, {what}"), atoms, rust, || whole(source, copied, &mut library));
 }
 
 /// Without the exports these rows are left out.
 #[cfg(not(feature = "exports"))]
 fn boundary(_: &mut Race, _: &str, _: &[u8]) {}
 
-/// Asks for atom after atom until the end, and folds the words of each.
+/// Asks for atom after atom until the end, and folds the words of each that the two sides lay alike: of a copied string its
+/// length alone, of a float not the stored bits. Each word is taken out by itself, as a program in C takes those that it
+/// needs: a compiler that makes one load of two has both sides wait, on some ways and not on others, for the stores to end.
 #[cfg(feature = "exports")]
 #[inline(always)]
-fn whole(source: &[u8], way: Way, mut read: impl FnMut(usize, u64, &mut [u64; 8]) -> u64) -> Option<Found> {
+fn whole(source: &[u8], copied: bool, read: &mut impl FnMut(usize, u64, &mut [u64; 8]) -> u64) -> Option<Found> {
     let (mut sum, mut atoms, mut place, mut budget) = (0, 0, 0, BUDGET);
     let mut words = [0; 8];
     while place < source.len() {
         if read(place, budget, &mut words) != 0 {
             return None;
         }
-        let [next, left, kind, arg, case, first, second, third] = words;
-        let copied = case == 4 && matches!(way, Way::ExactCopied);
-        let held = if copied { second } else { first ^ second ^ if case == 3 { 0 } else { third } };
-        sum = original::fold(sum, kind ^ arg ^ case ^ held);
+        // SAFETY: a reference to a word that is there.
+        let word = |at: usize| unsafe { std::ptr::read_volatile(&words[at]) };
+        let case = word(4);
+        let held = match case {
+            4 if copied => word(6),
+            3 => word(5) ^ word(6),
+            _ => word(5) ^ word(6) ^ word(7),
+        };
+        sum = original::fold(sum, word(2) ^ word(3) ^ case ^ held);
         atoms += 1;
-        (place, budget) = (next as usize, left);
+        (place, budget) = (word(0) as usize, word(1));
     }
     Some(Found { sum, atoms, place: place as u64, budget })
 }

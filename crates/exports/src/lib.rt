@@ -52,15 +52,16 @@ fn granted(words: usize, room: usize) -> usize
     room
 }
 
-// Reads an atom under a way: the one place that calls the reader. The words stand first, so that they go in registers:
-// where a caller laid their address and number on the stack one by one, to pass both on in one move would have to wait.
-// The source is lent whole, as a part of itself, so that its address and length are read at once, and go in registers too.
+// Reads an atom under a way: the one place that calls the reader. The parameters stand as the exports have them, so that
+// source, place, budget and words stay in the registers that they came in: all that is read waits for the place, and over
+// the stack it would come later. The scratch, which few atoms need, goes over the stack. The source is lent whole, as a
+// part of itself, so that its address and length are read at once.
 fn read_by(
-    words: &mut [u64],
     source: &[u8],
-    scratch: &mut [u8],
     place: usize,
     budget: u64,
+    words: &mut [u64],
+    scratch: &mut [u8],
     way: Way,
 ) -> u64
     ensures { λ r. ⌜ r ≡ numberOf (saidAtom (atomRead way (now (source .entry)) place (record { 0 = budget }) (now (scratch .entry)))) (now (words .entry)) ⌝ }
@@ -78,7 +79,7 @@ pub extern "C" fn pot_read_atom(source: &[u8], place: usize, budget: u64, words:
     ensures { λ r. ⌜ now (words .exit) ≡ wordsOf (saidAtom (atomRead unnamedWay (now (source .entry)) place (record { 0 = budget }) [])) (now (words .entry)) ⌝ }
 {
     let mut scratch = [0u8; 0];
-    read_by(words, source, &mut scratch, place, budget, Way::unnamed())
+    read_by(source, place, budget, words, &mut scratch, Way::unnamed())
 }
 
 // Reads an atom exactly; a string is lent.
@@ -93,7 +94,7 @@ pub extern "C" fn pot_read_atom_exact(
     ensures { λ r. ⌜ now (words .exit) ≡ wordsOf (saidAtom (atomRead ExactLent (now (source .entry)) place (record { 0 = budget }) [])) (now (words .entry)) ⌝ }
 {
     let mut scratch = [0u8; 0];
-    read_by(words, source, &mut scratch, place, budget, Way::ExactLent)
+    read_by(source, place, budget, words, &mut scratch, Way::ExactLent)
 }
 
 // Reads an atom exactly; a string is copied into scratch.
@@ -111,11 +112,11 @@ pub extern "C" fn pot_read_atom_copied(
 {
     let room = granted(words.len(), scratch.len());
     read_by(
-        words,
         source,
-        &mut scratch[0..room],
         place,
         budget,
+        words,
+        &mut scratch[0..room],
         Way::ExactCopied,
     )
 }
