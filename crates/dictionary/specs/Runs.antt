@@ -24,7 +24,8 @@ use Rattle.dictionary.specs.Letters.{letters}
 use Rattle.dictionary.specs.Steps.{skipped}
 
 -- what follows an atom that was read, at the place after it with the budget left; what follows one that was refused
-abbrev pub afterAtom : {X : Type 0} → AtomAnswer → (Place → Budget → X) → (Place → Budget → Refusal → X) → X
+abbrev pub afterAtom : {X : Type 0} →
+    AtomAnswer → (Place → Budget → X) → (Place → Budget → Refusal → X) → X
 afterAtom (A.Read place rest atom) on stop = on place rest
 afterAtom (A.Refused place rest r) on stop = stop place rest r
 
@@ -49,7 +50,8 @@ abbrev pub unlimited : ℕ
 unlimited = 0xFFFF_FFFF_FFFF_FFFF
 
 -- what a step tells of an atom that was skipped, and of one that was refused
-abbrev pub afterStep : {X : Type 0} → Skipped → (Place → Budget → Place → Bool → X) → (Refusal → X) → X
+abbrev pub afterStep : {X : Type 0} →
+    Skipped → (Place → Budget → Place → Bool → X) → (Refusal → X) → X
 afterStep (SK.Past place rest body string) on stop = on place rest body string
 afterStep (SK.Refused place rest r) on stop = stop r
 

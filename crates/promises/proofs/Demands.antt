@@ -102,10 +102,12 @@ pub demand1-integer : (way : Way) (s : List ℕ) (place : ℕ) (kind : Kind) (co
     IntegerRows way s place kind count
 demand1-integer = Entries.integers
 
-pub demand1-float : (way : Way) (s : List ℕ) (place : ℕ) (kind : Kind) (count : ℕ) → FloatRows way s place kind count
+pub demand1-float : (way : Way) (s : List ℕ) (place : ℕ) (kind : Kind) (count : ℕ) →
+    FloatRows way s place kind count
 demand1-float = Entries.floats
 
-pub demand1-string : (way : Way) (s : List ℕ) (place n : ℕ) (scratch : List ℕ) → StringRows way s place n scratch
+pub demand1-string : (way : Way) (s : List ℕ) (place n : ℕ) (scratch : List ℕ) →
+    StringRows way s place n scratch
 demand1-string = Entries.strings
 
 pub demand1-raw : (way : Way) (s : List ℕ) (place : ℕ) (buffer : List ℕ) → RawRows way s place buffer
@@ -193,7 +195,8 @@ pub record Priced (s : List ℕ) (atoms : List (List ℕ)) : Type 0 where
   pub reported : length s ≤ mostBytes →
       toldTally (tallyAll s)
       ≡ told 0
-      (pos (length atoms) ∷ pos (total bodyBytes atoms) ∷ pos (total price atoms) ∷ pos (total lettersIn atoms) ∷ [])
+      (pos (length atoms) ∷ pos (total bodyBytes atoms) ∷ pos (total price atoms) ∷
+      pos (total lettersIn atoms) ∷ [])
   -- any budget of at least C reads all and leaves the budget less C
   pub afforded : (budget : ℕ) → total price atoms ≤ budget →
       toldRan (runAll s (record { 0 = budget }))

@@ -33,7 +33,8 @@ use Rattle.promises.specs.Told.{toldAsF64, toldAsFloat, toldAsInteger}
 
 -- "each accepts a narrower or equal width, of either sign, if the value fits, and refuses every wider variant": what a
 -- cast tells of an integer, and what it tells of a number
-pub record CastRows (sort : Sign) (target : Width) (answer : Integer → Told) (numbers : ℤ → List ℤ) : Type 0 where
+pub record CastRows (sort : Sign) (target : Width) (answer : Integer → Told)
+    (numbers : ℤ → List ℤ) : Type 0 where
   pub answered : (x : Integer) →
       bytes (width x) ≤ bytes target →
       inRange sort target (value x) ≡ true →

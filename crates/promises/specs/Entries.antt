@@ -86,7 +86,8 @@ pub record SignatureRows (way : Way) (s : List ℕ) (place : ℕ) : Type 0 where
 
 -- a charge: "5: charge exceeds budget"
 pub record BudgetRows (budget : Budget) (charge : ℕ) : Type 0 where
-  pub taken : charge ≤ budget .0 → toldBudget (budgetAfter budget charge) ≡ told 0 (pos (budget .0 - charge) ∷ [])
+  pub taken : charge ≤ budget .0 →
+      toldBudget (budgetAfter budget charge) ≡ told 0 (pos (budget .0 - charge) ∷ [])
   pub five : budget .0 < charge → toldBudget (budgetAfter budget charge) ≡ told 5 []
 
 -- an integer asked for directly: 7 "before the count is judged: unchanged"; "its refusal 6 leaves the place"
@@ -200,7 +201,8 @@ pub record HeldRows (held : Bool) (bytes old : List ℕ) : Type 0 where
       (toldWritten (heldAnswer held bytes old) ≡ told 8 []) × (heldContent held bytes old ≡ old)
   pub written :
       held ≡ true →
-      (heldAnswer held bytes old ≡ writtenAnswer bytes old) × (heldContent held bytes old ≡ writtenContent bytes old)
+      (heldAnswer held bytes old ≡ writtenAnswer bytes old) ×
+      (heldContent held bytes old ≡ writtenContent bytes old)
 
 -- "10 TooLong: tally input over 16,777,216 bytes; its program over 65,536"
 pub record LengthRows (s : List ℕ) : Type 0 where

@@ -52,7 +52,8 @@ pub record Ieee754 : Type 0 where
       ≡ told 0
       (pos (placeIn (length s) (startOf s place + count)) ∷ pos (numberAt count s (startOf s place))
       ∷ floatHeld count (numberAt count s (startOf s place)))
-  pub atom-read : (way : Way) (s : List ℕ) (place : ℕ) (budget : Budget) (scratch : List ℕ) (next : Place) (arg : ℕ) →
+  pub atom-read : (way : Way) (s : List ℕ) (place : ℕ) (budget : Budget) (scratch : List ℕ)
+      (next : Place) (arg : ℕ) →
       headerRead way s place ≡ H.Read next K.Float arg →
       Good way s budget scratch next K.Float arg →
       toldAtom (atomRead way s place budget scratch)

@@ -52,8 +52,8 @@ pub data Number : Kind → Type 0 where
 
 -- an atom that is not refused, past its header: of a known form, within the budget, whole unless it is filled, with its
 -- scratch
-pub record Good (way : Way) (s : List ℕ) (budget : Budget) (scratch : List ℕ) (next : Place) (kind : Kind) (arg : ℕ)
-    : Type 0
+pub record Good (way : Way) (s : List ℕ) (budget : Budget) (scratch : List ℕ)
+    (next : Place) (kind : Kind) (arg : ℕ) : Type 0
   where
     pub form-known : known kind arg ≡ true
     pub afforded : chargeOf kind arg ≤ budget .0
@@ -72,7 +72,8 @@ taking way s next budget kind arg =
     (pos (placeIn (length s) (next .0 + bodyLength kind arg)) ∷ pos (budget .0 - chargeOf kind arg)
     ∷ pos (kindCode kind) ∷ pos arg ∷ held way s (next .0) kind arg)
 
-pub data Row (way : Way) (s : List ℕ) (budget : Budget) (scratch : List ℕ) : HeaderAnswer → Told → List ℕ → Type 0
+pub data Row (way : Way) (s : List ℕ) (budget : Budget) (scratch : List ℕ) :
+    HeaderAnswer → Told → List ℕ → Type 0
   where
     -- "4 Eof: input ends: everything under exact reading: end of slice"; no body was being read
     four-in-header :

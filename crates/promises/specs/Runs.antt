@@ -28,5 +28,5 @@ pub data RunRow (s : List ℕ) (budget : ℕ) : Told → Type 0 where
       Barred rest (budget - total price atoms) why past charge →
       RunRow s budget
       (refused
-      (pos (length front + past) ∷ pos (budget - total price atoms - charge) ∷ pos (length atoms) ∷ pos (length front)
-      ∷ []) why)
+      (pos (length front + past) ∷ pos (budget - total price atoms - charge) ∷ pos (length atoms) ∷
+      pos (length front) ∷ []) why)

@@ -135,7 +135,8 @@ toldRaw (RA.Refused p r) = refused (pos (p .0) ∷ []) r
 
 -- the step: a string is told by 1, another atom by 0
 abbrev pub toldSkipped : Skipped → Told
-toldSkipped (SK.Past p b body string) = taken (pos (p .0) ∷ pos (b .0) ∷ pos (body .0) ∷ pos (pick string 1 0) ∷ [])
+toldSkipped (SK.Past p b body string) =
+    taken (pos (p .0) ∷ pos (b .0) ∷ pos (body .0) ∷ pos (pick string 1 0) ∷ [])
 toldSkipped (SK.Refused p b r) = refused (pos (p .0) ∷ pos (b .0) ∷ []) r
 
 -- the run: the place where a refused atom starts stands before the refusal's data

@@ -131,7 +131,8 @@ abbrev pub around : List ℕ → List ℕ → Value → List ℕ
 around before after value = before ++ (written value ++ after)
 
 -- WHAT WAS WRITTEN READS BACK: just past it, for its price, an atom that carries the value
-pub record ReadBack (way : Way) (before after : List ℕ) (budget : Budget) (scratch : List ℕ) (value : Value) : Type 0
+pub record ReadBack (way : Way) (before after : List ℕ) (budget : Budget) (scratch : List ℕ)
+    (value : Value) : Type 0
   where
     pub atom : Atom
     pub is-read :

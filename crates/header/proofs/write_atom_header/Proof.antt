@@ -1,4 +1,4 @@
--- `header::write_atom_header` meets its contract: one byte is `put_one`'s, more are a head with `write_later` after it.
+-- `header::write_atom_header` meets its contract: one byte is `put_one`'s, more are `write_long`'s.
 use Rattle.header.proofs.Writes.{atom-header-ends}
 use Rattle.header.proofs.write_atom_header.Statement.{statement}
 use Rattle.header.proofs.write_atom_header.Tie as tie
