@@ -54,7 +54,8 @@ module _ (s : List ℕ) (budget : Budget) (scratch : List ℕ) (p : Place) (b : 
   -- what follows a header: a number, and what has no other bytes
   module _ (arg : ℕ) (next : Place) where
     module _ (rest : Budget) where
-      number-filled : (n : NumberForm) (exactly filled : AtomAnswer) → exactly ≡ numberTaken n W.ExactLent s arg next rest →
+      number-filled : (n : NumberForm) (exactly filled : AtomAnswer) →
+          exactly ≡ numberTaken n W.ExactLent s arg next rest →
           filled ≡ numberTaken n W.Filled s arg next rest → exactly ≡ A.Read p b x → filled ≡ A.Read p b x
       number-filled n exactly filled f g e =
           g

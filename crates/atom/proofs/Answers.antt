@@ -1,5 +1,5 @@
--- The order within an atom, at each of its ends: the charge, then whether the atom is known, then its body. And the bodies of
--- numbers where the two are passed.
+-- The order within an atom, at each of its ends: the charge, then whether the atom is known, then its body. And the
+-- bodies of numbers where the two are passed.
 use mathlib.Core.Path.{_≡_, refl, _∙_, sym}
 use mathlib.Core.Bool.{Bool, true, false, false≢true}
 use mathlib.Core.List.{List}
@@ -54,7 +54,8 @@ module _ (kind : Kind) (arg : ℕ) (next : Place) (budget : Budget) (body : Budg
     judged-left k = cc
 
 -- what differs after that is what the bodies differ in
-same-paid : (next : Place) (budget : Budget) (f g : Budget → AtomAnswer) (paid : BudgetAnswer) (k : Bool) (r : Refusal) →
+same-paid : (next : Place) (budget : Budget) (f g : Budget → AtomAnswer) (paid : BudgetAnswer) (k : Bool)
+    (r : Refusal) →
     ((rest : Budget) → f rest ≡ g rest) → (a b : AtomAnswer) →
     a ≡ charged next budget paid (λ rest. pick k (f rest) (A.Refused next rest r)) →
     b ≡ charged next budget paid (λ rest. pick k (g rest) (A.Refused next rest r)) → a ≡ b
@@ -66,7 +67,8 @@ pub same-judged : (kind : Kind) (arg : ℕ) (next : Place) (budget : Budget) (f 
     ((rest : Budget) → f rest ≡ g rest) → judged kind arg next budget f ≡ judged kind arg next budget g
 unfolding judged
 same-judged kind arg next budget f g h =
-    same-paid next budget f g (budgetAfter budget (chargeOf kind arg)) (known kind arg) (unknown kind arg) h _ _ refl refl
+    same-paid next budget f g (budgetAfter budget (chargeOf kind arg)) (known kind arg) (unknown kind arg) h _ _ refl
+    refl
 
 -- WHAT THE ARGUMENT OF AN INTEGER MEANS, of either kind
 pub either-kind : (P : Kind → Type 0) → P K.Int → P K.UInt → (kind : Kind) → integerKind kind ≡ true → P kind

@@ -33,7 +33,11 @@ pub paid : (b : Budget) (c : ℕ) → c ≤ b .0 → budgetAfter b c ≡ BA.Left
 paid b c h = simp (le-ltb (b .0) c h)
 
 -- THE HEADER DECIDES: what follows a written header is read by its kind, just past it
-pub atom-back : (way : Way) (kind : Kind) (arg : ℕ) (before rest : List ℕ) (budget : Budget) (scratch : List ℕ) → arg < 2 ^ 64 → atomRead way (before ++ (headerBytes kind arg ++ rest)) (length before) budget scratch ≡ atomAfter way (before ++ (headerBytes kind arg ++ rest)) kind arg (record { 0 = length before + length (headerBytes kind arg) }) budget scratch
+pub atom-back : (way : Way) (kind : Kind) (arg : ℕ) (before rest : List ℕ) (budget : Budget) (scratch : List ℕ) →
+    arg < 2 ^ 64 →
+    atomRead way (before ++ (headerBytes kind arg ++ rest)) (length before) budget scratch
+    ≡ atomAfter way (before ++ (headerBytes kind arg ++ rest)) kind arg
+    (record { 0 = length before + length (headerBytes kind arg) }) budget scratch
 unfolding atomRead
 atom-back way kind arg before rest budget scratch l =
     let s : List ℕ = before ++ (headerBytes kind arg ++ rest) in
@@ -43,7 +47,10 @@ atom-back way kind arg before rest budget scratch l =
     ∙ ap (atomFrom way s budget scratch) (header-back way kind arg before rest l)
 
 -- each special reads back as itself, for nothing
-pub special-back : (way : Way) (special : Special) (before after : List ℕ) (budget : Budget) (scratch : List ℕ) → atomRead way (before ++ (headerBytes K.Special (specialCode special) ++ after)) (length before) budget scratch ≡ A.Read (record { 0 = length before + length (headerBytes K.Special (specialCode special)) }) budget (atomOf K.Special (specialCode special) (specialNucleus special))
+pub special-back : (way : Way) (special : Special) (before after : List ℕ) (budget : Budget) (scratch : List ℕ) →
+    atomRead way (before ++ (headerBytes K.Special (specialCode special) ++ after)) (length before) budget scratch
+    ≡ A.Read (record { 0 = length before + length (headerBytes K.Special (specialCode special)) }) budget
+    (atomOf K.Special (specialCode special) (specialNucleus special))
 special-back way special before after budget scratch =
     let code = specialCode special in
     let next : Place = record { 0 = length before + length (headerBytes K.Special code) } in
@@ -54,7 +61,13 @@ special-back way special before after budget scratch =
     ∙ ap (λ (a : SpecialAnswer). headerTaken K.Special code next (specialNucleus (specialKnown a)) budget) here
 
 -- a string reads back under every way, from a budget of at least its length, lent or copied
-pub bytes-back : (way : Way) (before bytes after : List ℕ) (budget : Budget) (scratch : List ℕ) → length bytes < 2 ^ 64 → length bytes ≤ budget .0 → scratchNeeded way (length bytes) ≤ length scratch → atomRead way (before ++ (headerBytes K.Bytes (length bytes) ++ (bytes ++ after))) (length before) budget scratch ≡ A.Read (record { 0 = length before + length (headerBytes K.Bytes (length bytes)) + length bytes }) (record { 0 = budget .0 - length bytes }) (atomOf K.Bytes (length bytes) (N.Bytes (stringMark way (length before + length (headerBytes K.Bytes (length bytes))) (length bytes))))
+pub bytes-back : (way : Way) (before bytes after : List ℕ) (budget : Budget) (scratch : List ℕ) →
+    length bytes < 2 ^ 64 → length bytes ≤ budget .0 → scratchNeeded way (length bytes) ≤ length scratch →
+    atomRead way (before ++ (headerBytes K.Bytes (length bytes) ++ (bytes ++ after))) (length before) budget scratch
+    ≡ A.Read (record { 0 = length before + length (headerBytes K.Bytes (length bytes)) + length bytes })
+    (record { 0 = budget .0 - length bytes })
+    (atomOf K.Bytes (length bytes)
+    (N.Bytes (stringMark way (length before + length (headerBytes K.Bytes (length bytes))) (length bytes))))
 bytes-back way before bytes after budget scratch l b r =
     let hd : List ℕ = headerBytes K.Bytes (length bytes) in
     let s : List ℕ = before ++ (hd ++ (bytes ++ after)) in
@@ -67,4 +80,5 @@ bytes-back way before bytes after budget scratch l b r =
     ∙ sym (judged-left K.Bytes (length bytes) next budget (bytesTaken way s (length bytes) next scratch) left
     (paid budget (length bytes) b) refl)
     ∙ ap (bytesAtom (length bytes) left) (ap (λ (p : ℕ). stringAnswer way s p (length bytes) scratch) (sym n) ∙ back .0)
-    ∙ ap (λ (p : ℕ). A.Read (record { 0 = p + length bytes }) left (atomOf K.Bytes (length bytes) (N.Bytes (stringMark way p (length bytes))))) n
+    ∙ ap (λ (p : ℕ). A.Read (record { 0 = p + length bytes }) left
+    (atomOf K.Bytes (length bytes) (N.Bytes (stringMark way p (length bytes))))) n

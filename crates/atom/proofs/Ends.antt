@@ -163,7 +163,8 @@ tested ok said found s f = sym s ∙ f
 
 pub ruleset judged-ends = (number-too-dear, number-unsupported, number-whole, number-past-end, number-filled)
 
-pub ruleset held-ends = (integer-held, float-held, float-made, integer-as-number, float-as-number, integer-means, float-means)
+pub ruleset held-ends =
+    (integer-held, float-held, float-made, integer-as-number, float-as-number, integer-means, float-means)
 
 pub ruleset number-ends = (judged-ends, held-ends, tested, needs)
 

@@ -1,6 +1,8 @@
--- A finite number in a format's smallest values, over the count p of fraction bits: its fields can be read off it (`packed-smallests`), so no two pairs of fields have it (`same-fields`).
--- Then between two formats, of p and of q = p + d fraction bits, whose smallest values are 2 ^ (u + d) apart: what a normal and a subnormal number become in the wider one, and which numbers of the wider one they become (`origin`).
--- Rests on the count of a number's binary digits, `lib.Ieee.size`.
+-- A finite number in a format's smallest values, over the count p of fraction bits: its fields can be read off it
+-- (`packed-smallests`), so no two pairs of fields have it (`same-fields`). Then between two formats, of p and of q = p
+-- + d fraction bits, whose smallest values are 2 ^ (u + d) apart: what a normal and a subnormal number become in the
+-- wider one, and which numbers of the wider one they become (`origin`). Rests on the count of a number's binary digits,
+-- `lib.Ieee.size`.
 use mathlib.Core.Path.{_≡_, refl, sym, ap, _∙_, subst}
 use mathlib.Core.Logic.{_⊎_, inl, inr}
 use Prim.Native.Nat.{ℕ, zero, suc, _+_, _-_, _*_, _/_, _%_, _^_, _≤_, _<_}
@@ -66,7 +68,8 @@ regroup a x u d =
     ∙ sym (mul-assoc a d (x * u))
 
 -- a normal number: u more in the exponent's field, d zeros more in the fraction
-pub lift-normal : (p d q u x t : ℕ) → q ≡ p + d → smallests p (suc x) t * 2 ^ (u + d) ≡ smallests q (suc (x + u)) (t * 2 ^ d)
+pub lift-normal : (p d q u x t : ℕ) → q ≡ p + d →
+    smallests p (suc x) t * 2 ^ (u + d) ≡ smallests q (suc (x + u)) (t * 2 ^ d)
 unfolding smallests
 lift-normal p d q u x t e =
     rw (e, pow-add 2 p d, pow-add 2 u d, pow-add 2 x u)
@@ -75,19 +78,23 @@ lift-normal p d q u x t e =
 -- a fraction that is moved up by j until its leading digit is where a normal number has it
 pub raised-le : (p d q j t : ℕ) → q ≡ p + d → 2 ^ p ≤ t * 2 ^ j → 2 ^ q ≤ t * 2 ^ (j + d)
 raised-le p d q j t e h =
-    rw (e, pow-add 2 p d, pow-add 2 j d) (le-trans (mul-le-mul-right (2 ^ d) h) (le-of-eq (mul-assoc t (2 ^ j) (2 ^ d))))
+    rw (e, pow-add 2 p d, pow-add 2 j d)
+    (le-trans (mul-le-mul-right (2 ^ d) h) (le-of-eq (mul-assoc t (2 ^ j) (2 ^ d))))
 
 pub lift-subnormal : (p d q u j t : ℕ) → q ≡ p + d → j ≤ u → 2 ^ p ≤ t * 2 ^ j
     → smallests p 0 t * 2 ^ (u + d) ≡ smallests q (suc (u - j)) (t * 2 ^ (j + d) - 2 ^ q)
 unfolding smallests
 lift-subnormal p d q u j t e k h =
     let all : u + d ≡ j + d + (u - j) = omega arith in
-    rw (add-sub-of-le (raised-le p d q j t e h), all, pow-add 2 (j + d) (u - j)) (sym (mul-assoc t (2 ^ (j + d)) (2 ^ (u - j))))
+    rw (add-sub-of-le (raised-le p d q j t e h), all, pow-add 2 (j + d) (u - j))
+    (sym (mul-assoc t (2 ^ (j + d)) (2 ^ (u - j))))
 
 -- the fraction that it then has is below the leading digit
-pub raised-lt : (p d q j t : ℕ) → q ≡ p + d → 2 ^ p ≤ t * 2 ^ j → t * 2 ^ j < 2 ^ suc p → t * 2 ^ (j + d) - 2 ^ q < 2 ^ q
+pub raised-lt : (p d q j t : ℕ) → q ≡ p + d → 2 ^ p ≤ t * 2 ^ j → t * 2 ^ j < 2 ^ suc p →
+    t * 2 ^ (j + d) - 2 ^ q < 2 ^ q
 raised-lt p d q j t e h l =
-    let r : t * 2 ^ (j + d) ≡ t * 2 ^ j * 2 ^ d = ap (λ (x : ℕ). t * x) (pow-add 2 j d) ∙ sym (mul-assoc t (2 ^ j) (2 ^ d)) in
+    let r : t * 2 ^ (j + d) ≡ t * 2 ^ j * 2 ^ d = ap (λ (x : ℕ). t * x) (pow-add 2 j d)
+    ∙ sym (mul-assoc t (2 ^ j) (2 ^ d)) in
     let s : t * 2 ^ j * 2 ^ d < 2 ^ (suc p + d) = shl-lt (suc p) d l in
     let k : suc p + d ≡ suc q = omega arith in
     let s' : t * 2 ^ j * 2 ^ d < 2 ^ suc q = subst (λ (x : ℕ). t * 2 ^ j * 2 ^ d < 2 ^ x) k s in
@@ -113,7 +120,8 @@ up-to p t h l =
 -- where a number (e, t) of the wider format comes from, if it is the number (e', t') of the narrower one
 pub data Origin (p d q u e' t' e t : ℕ) : Type 0 where
   from-zero : e' ≡ 0 → t' ≡ 0 → e ≡ 0 → t ≡ 0 → Origin p d q u e' t' e t
-  from-subnormal : e' ≡ 0 → (j : ℕ) → 1 ≤ j → j ≤ p → e + j ≡ suc u → 2 ^ q + t ≡ t' * 2 ^ (j + d) → Origin p d q u e' t' e t
+  from-subnormal : e' ≡ 0 → (j : ℕ) → 1 ≤ j → j ≤ p → e + j ≡ suc u → 2 ^ q + t ≡ t' * 2 ^ (j + d) →
+      Origin p d q u e' t' e t
   from-normal : 1 ≤ e' → e ≡ e' + u → t ≡ t' * 2 ^ d → Origin p d q u e' t' e t
 
 low-is : (p t : ℕ) → smallests p 0 t ≡ t
@@ -130,12 +138,15 @@ origin p d q u zero t' e t k deep h' h same = go (eq-zero-or-pos t')
   where
     go : (t' ≡ 0) ⊎ (0 < t') → Origin p d q u 0 t' e t
     go (inl z) =
-        let f = same-fields q e t 0 0 h (pow-pos q) (sym same ∙ ap (λ (y : ℕ). y * 2 ^ (u + d)) (low-is p t' ∙ z) ∙ zero-mul (2 ^ (u + d)) ∙ sym (low-is q 0)) in
+        let f = same-fields q e t 0 0 h (pow-pos q)
+        (sym same ∙ ap (λ (y : ℕ). y * 2 ^ (u + d)) (low-is p t' ∙ z) ∙ zero-mul (2 ^ (u + d)) ∙ sym (low-is q 0))
+        in
         from-zero refl z (f .0) (f .1)
     go (inr n) =
         let m = up-to p t' n h' in
         let j = m .0 in
         let J : j ≤ u = omega arith in
-        let f = same-fields q e t (suc (u - j)) (t' * 2 ^ (j + d) - 2 ^ q) h (raised-lt p d q j t' k (m .3) (m .4)) (sym same ∙ lift-subnormal p d q u j t' k J (m .3)) in
+        let f = same-fields q e t (suc (u - j)) (t' * 2 ^ (j + d) - 2 ^ q) h (raised-lt p d q j t' k (m .3) (m .4))
+        (sym same ∙ lift-subnormal p d q u j t' k J (m .3)) in
         let le : 2 ^ q ≤ t' * 2 ^ (j + d) = raised-le p d q j t' k (m .3) in
         from-subnormal refl j (m .1) (m .2) (omega (arith, f .0)) (omega (arith, f .1))

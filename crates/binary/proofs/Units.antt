@@ -1,4 +1,5 @@
--- A float's magnitude in units of 2 ^ -1074, beside the fraction m * up e / down e that the logic compares by. The one home of that law, for all crates above.
+-- A float's magnitude in units of 2 ^ -1074, beside the fraction m * up e / down e that the logic compares by. The one
+-- home of that law, for all crates above.
 use mathlib.Core.Path.{_≡_, refl, sym, ap, _∙_}
 use mathlib.Core.Bool.{Bool, true, false, _&&_}
 use Prim.Native.Nat.{ℕ, zero, suc, _+_, _-_, _*_, _%_, _^_, _≤_, _<_}
@@ -22,7 +23,8 @@ not-above k false e p = absurd (clash (2 ^ k) (2 ^ 1074) p (pow-lt (leb-false k 
 
 -- the units are the fraction times 2 ^ 1074
 pub scale : (m : ℕ) (e : ℤ) → down e ≤ 2 ^ 1074 → unitsOf m e * down e ≡ m * up e * 2 ^ 1074
-scale m (pos k) h = mul-one (m * 2 ^ (1074 + k)) ∙ ap (λ (x : ℕ). m * x) (pow-add 2 1074 k ∙ mul-comm (2 ^ 1074) (2 ^ k)) ∙ sym (mul-assoc m (2 ^ k) (2 ^ 1074))
+scale m (pos k) h = mul-one (m * 2 ^ (1074 + k))
+    ∙ ap (λ (x : ℕ). m * x) (pow-add 2 1074 k ∙ mul-comm (2 ^ 1074) (2 ^ k)) ∙ sym (mul-assoc m (2 ^ k) (2 ^ 1074))
 scale m (negsuc j) h =
     let l : suc j ≤ 1074 = not-above (suc j) (leb (suc j) 1074) refl h in
     let e : 1073 - j + suc j ≡ 1074 = omega arith in
@@ -52,11 +54,13 @@ fine f (I.fin s zero (negsuc k)) t = one-le (2 ^ suc k) (2 ^ 1074) (eqb→eq (1 
 fine f (I.fin s (suc m) e) t =
     le-trans (leb→le (down e) (2 ^ low f)
     (and-r (eqb (suc m % 2) 1 && ltb (suc m) (2 ^ prec f)) (leb (down e) (2 ^ low f))
-    (and-l (eqb (suc m % 2) 1 && ltb (suc m) (2 ^ prec f) && leb (down e) (2 ^ low f)) (ltb (suc m * up e) (2 ^ suc (emax f) * down e)) t)))
+    (and-l (eqb (suc m % 2) 1 && ltb (suc m) (2 ^ prec f) && leb (down e) (2 ^ low f))
+    (ltb (suc m * up e) (2 ^ suc (emax f) * down e)) t)))
     (low-ok f)
 
 -- a fraction that is n / 2 ^ l, counted
-pub counted : (l j m n : ℕ) (e : ℤ) → l + j ≡ 1074 → down e ≤ 2 ^ 1074 → m * up e * 2 ^ l ≡ n * down e → unitsOf m e ≡ n * 2 ^ j
+pub counted : (l j m n : ℕ) (e : ℤ) → l + j ≡ 1074 → down e ≤ 2 ^ 1074 → m * up e * 2 ^ l ≡ n * down e →
+    unitsOf m e ≡ n * 2 ^ j
 counted l j m n e L d h =
     eq-of-mul-eq-mul-right (down e) (down-pos e) (unitsOf m e) (n * 2 ^ j)
     (scale m e d

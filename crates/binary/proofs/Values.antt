@@ -1,5 +1,6 @@
--- The logic's own account of `f32` and `f64` agrees with the formats of this crate: what `ofBits` reads from a pattern has the pattern's sign and magnitude, is the same infinity, or is the NaN exactly at a NaN's pattern.
--- Rests on `lib.Ieee`: that `odd` keeps its value, and that what is read fits its format.
+-- The logic's own account of `f32` and `f64` agrees with the formats of this crate: what `ofBits` reads from a pattern
+-- has the pattern's sign and magnitude, is the same infinity, or is the NaN exactly at a NaN's pattern. Rests on
+-- `lib.Ieee`: that `odd` keeps its value, and that what is read fits its format.
 use mathlib.Core.Path.{_≡_, refl, sym, ap, _∙_, subst}
 use mathlib.Core.Bool.{Bool, true, false, cond, false≢true}
 use Prim.Native.Nat.{ℕ, zero, suc, _+_, _-_, _*_, _/_, _%_, _^_, _<_}
@@ -18,11 +19,13 @@ use Rattle.binary.proofs.Patterns.{meant, meaning-is, meant-finite, Rea
 use Rattle.binary.proofs.Widths.{half-single, single-double}
 use Rattle.binary.proofs.Laws.{widened-lt, widened-keeps, widened-narrowed, widened-nan}
 
-value-means : (x : Float) (s : Bool) (n l j : ℕ) → l + j ≡ 1074 → Fine x → HasValue x s n (2 ^ l) → floatMeaning x ≡ finite s (n * 2 ^ j)
+value-means : (x : Float) (s : Bool) (n l j : ℕ) → l + j ≡ 1074 → Fine x → HasValue x s n (2 ^ l) →
+    floatMeaning x ≡ finite s (n * 2 ^ j)
 unfolding floatMeaning
 value-means I.nan s n l j L d h = absurd h
 value-means (I.inf t) s n l j L d h = absurd h
-value-means (I.fin t m e) s n l j L d h = ap (λ (b : Bool). finite b (unitsOf m e)) (h .0) ∙ ap (finite s) (counted l j m n e L d (h .1))
+value-means (I.fin t m e) s n l j L d h = ap (λ (b : Bool). finite b (unitsOf m e)) (h .0)
+    ∙ ap (finite s) (counted l j m n e L d (h .1))
 
 -- ---- what the fields are read as
 
@@ -53,14 +56,18 @@ by-tests true true s t x y h = refl
 by-tests true false s t x y h = refl
 by-tests false b s t x y h = h refl
 
-fits-inside : (f : Format) (a b : Bool) (s : Bool) (x : Float) → a ≡ false → T (fits f (cond a (cond b (I.inf s) I.nan) x)) → T (fits f x)
+fits-inside : (f : Format) (a b : Bool) (s : Bool) (x : Float) → a ≡ false →
+    T (fits f (cond a (cond b (I.inf s) I.nan) x)) → T (fits f x)
 fits-inside f a b s x e F = subst (λ (c : Bool). T (fits f (cond c (cond b (I.inf s) I.nan) x))) e F
 
-low-means : (f : Format) (s : Bool) (q x : ℕ) → T (fits f (odd (prec f) s q x (low f))) → floatMeaning (odd (prec f) s q x (low f)) ≡ finite s (q * 2 ^ x * 2 ^ unit (layoutOf f))
+low-means : (f : Format) (s : Bool) (q x : ℕ) → T (fits f (odd (prec f) s q x (low f))) →
+    floatMeaning (odd (prec f) s q x (low f)) ≡ finite s (q * 2 ^ x * 2 ^ unit (layoutOf f))
 low-means f s q x F =
-    value-means (odd (prec f) s q x (low f)) s (q * 2 ^ x) (low f) (unit (layoutOf f)) (low-unit f) (fine f (odd (prec f) s q x (low f)) F) (odd-sign (prec f) s q x (low f))
+    value-means (odd (prec f) s q x (low f)) s (q * 2 ^ x) (low f) (unit (layoutOf f)) (low-unit f)
+    (fine f (odd (prec f) s q x (low f)) F) (odd-sign (prec f) s q x (low f))
 
-fields-mean : (f : Format) (s : Bool) (x t : ℕ) → T (fits f (ofFields f s x t)) → floatMeaning (ofFields f s x t) ≡ plain (meant (layoutOf f) s x t)
+fields-mean : (f : Format) (s : Bool) (x t : ℕ) → T (fits f (ofFields f s x t)) →
+    floatMeaning (ofFields f s x t) ≡ plain (meant (layoutOf f) s x t)
 unfolding ofFields smallests
 fields-mean f s zero t F =
     low-means f s t 0 F
@@ -69,8 +76,10 @@ fields-mean f s zero t F =
 fields-mean f s (suc x) t F =
     let o = odd (prec f) s (hid f + t) x (low f) in
     by-tests (eqb (suc x) (ones f)) (eqb t 0) s t o (finite s (magnitude (layoutOf f) (suc x) t))
-    (λ e. low-means f s (hid f + t) x (fits-inside f (eqb (suc x) (ones f)) (eqb t 0) s o e F) ∙ ap (λ (h : ℕ). finite s ((h + t) * 2 ^ x * 2 ^ unit (layoutOf f))) (same-lead f))
-    ∙ ap (λ (n : ℕ). plain (cond (eqb (suc x) n) (cond (eqb t 0) (infinite s) (nan s t)) (finite s (magnitude (layoutOf f) (suc x) t)))) (same-ones f)
+    (λ e. low-means f s (hid f + t) x (fits-inside f (eqb (suc x) (ones f)) (eqb t 0) s o e F)
+    ∙ ap (λ (h : ℕ). finite s ((h + t) * 2 ^ x * 2 ^ unit (layoutOf f))) (same-lead f))
+    ∙ ap (λ (n : ℕ). plain (cond (eqb (suc x) n) (cond (eqb t 0) (infinite s) (nan s t))
+    (finite s (magnitude (layoutOf f) (suc x) t)))) (same-ones f)
 
 fields-are : (f : Format) (b : ℕ) → ofBits f b ≡ ofFields f (leb (top f) b) (b % top f / hid f) (b % hid f)
 unfolding ofBits
@@ -80,9 +89,11 @@ fields-are f b = refl
 pub ofBits-means : (f : Format) (b : ℕ) → floatMeaning (ofBits f b) ≡ plain (meaning (layoutOf f) b)
 ofBits-means f b =
     ap floatMeaning (fields-are f b)
-    ∙ fields-mean f (leb (top f) b) (b % top f / hid f) (b % hid f) (subst (λ (x : Float). T (fits f x)) (fields-are f b) (ofBits-fits f b))
+    ∙ fields-mean f (leb (top f) b) (b % top f / hid f) (b % hid f)
+    (subst (λ (x : Float). T (fits f x)) (fields-are f b) (ofBits-fits f b))
     ∙ ap (λ (w : ℕ). plain (meant (layoutOf f) (leb w b) (b % w / hid f) (b % hid f))) (same-sign f)
-    ∙ ap (λ (h : ℕ). plain (meant (layoutOf f) (negative (layoutOf f) b) (b % signWeight (layoutOf f) / h) (b % h))) (same-lead f)
+    ∙ ap (λ (h : ℕ). plain (meant (layoutOf f) (negative (layoutOf f) b) (b % signWeight (layoutOf f) / h) (b % h)))
+    (same-lead f)
     ∙ sym (ap plain (meaning-is (layoutOf f) b))
 
 -- ---- so a float that fits has the pattern that means it
@@ -121,10 +132,12 @@ pub nan-value : (f : Format) (b : ℕ) (s : Bool) (t : ℕ) → meaning (layoutO
 nan-value f b s t h = nan-float (ofBits f b) (ofBits-means f b ∙ ap plain h)
 
 -- a number's pattern is the one that means it
-pub pattern-of : (f : Format) (x : Float) (b : ℕ) → T (fits f x) → b < 2 * signWeight (layoutOf f) → NotNan (meaning (layoutOf f) b) → floatMeaning x ≡ meaning (layoutOf f) b → toBits f x ≡ b
+pub pattern-of : (f : Format) (x : Float) (b : ℕ) → T (fits f x) → b < 2 * signWeight (layoutOf f) →
+    NotNan (meaning (layoutOf f) b) → floatMeaning x ≡ meaning (layoutOf f) b → toBits f x ≡ b
 pattern-of f x b F B n h =
     one-pattern (layoutOf f) (toBits f x) b (subst (λ (w : ℕ). toBits f x < 2 * w) (same-sign f) (toBits-lt f x F)) B
-    (plain-number (meaning (layoutOf f) (toBits f x)) (meaning (layoutOf f) b) (toBits-means f x F ∙ h ∙ sym (plain-is (meaning (layoutOf f) b) n)) n)
+    (plain-number (meaning (layoutOf f) (toBits f x)) (meaning (layoutOf f) b)
+    (toBits-means f x F ∙ h ∙ sym (plain-is (meaning (layoutOf f) b) n)) n)
 
 -- ---- the two widths of a value
 
@@ -139,18 +152,23 @@ widened-value b = go (reading single b)
         let w = widened single double b in
         let k : meaning double w ≡ meaning single b = widened-keeps single-double b n in
         let m : NotNan (meaning double w) = subst NotNan (sym k) n in
-        let q : toBits binary64 x ≡ w = pattern-of binary64 x w F (widened-lt single-double b n) m (ofBits-means binary32 b ∙ plain-is (meaning single b) n ∙ sym k) in
+        let q : toBits binary64 x ≡ w =
+        pattern-of binary64 x w F (widened-lt single-double b n) m
+        (ofBits-means binary32 b ∙ plain-is (meaning single b) n ∙ sym k) in
         ap (ofBits binary64) (sym q) ∙ ofBits-toBits binary64 x F
 
     go : Reading single b → ofBits binary64 (widened single double b) ≡ ofBits binary32 b
     go (is-finite e m) = number (subst NotNan (sym m) tt)
     go (is-infinite e z m) = number (subst NotNan (sym m) tt)
     go (is-nan e z m) =
-        nan-value binary64 (widened single double b) (negative single b) (quieted double (fraction single b * 2 ^ (double .fractionBits - single .fractionBits))) (widened-nan single double b (negative single b) (fraction single b) (lit< tt) m)
+        nan-value binary64 (widened single double b) (negative single b)
+        (quieted double (fraction single b * 2 ^ (double .fractionBits - single .fractionBits)))
+        (widened-nan single double b (negative single b) (fraction single b) (lit< tt) m)
         ∙ sym (nan-value binary32 b (negative single b) (fraction single b) m)
 
 -- what narrows is the same float
-pub narrowed-value : (b q : ℕ) → b < 2 * signWeight double → narrowed double single b ≡ kept q → ofBits binary32 q ≡ ofBits binary64 b
+pub narrowed-value : (b q : ℕ) → b < 2 * signWeight double → narrowed double single b ≡ kept q →
+    ofBits binary32 q ≡ ofBits binary64 b
 narrowed-value b q B h = sym (widened-value q) ∙ ap (ofBits binary64) (widened-narrowed single-double b q B h)
 
 -- ---- a binary16 pattern is read through binary32
@@ -161,4 +179,5 @@ half-value h = ofBits-means binary32 (widened half single h) ∙ go (reading hal
     go : Reading half h → plain (meaning single (widened half single h)) ≡ plain (meaning half h)
     go (is-finite e m) = ap plain (widened-keeps half-single h (subst NotNan (sym m) tt))
     go (is-infinite e z m) = ap plain (widened-keeps half-single h (subst NotNan (sym m) tt))
-    go (is-nan e n m) = ap plain (widened-nan half single h (negative half h) (fraction half h) (lit< tt) m) ∙ sym (ap plain m)
+    go (is-nan e n m) = ap plain (widened-nan half single h (negative half h) (fraction half h) (lit< tt) m)
+        ∙ sym (ap plain m)

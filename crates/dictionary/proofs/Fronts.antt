@@ -1,4 +1,5 @@
--- A header is read off its own bytes: what stands behind them changes neither its kind, nor its argument, nor its length.
+-- A header is read off its own bytes: what stands behind them changes neither its kind, nor its argument, nor its
+-- length.
 use mathlib.Core.Path.{_≡_, refl, ap}
 use mathlib.Core.Bool.{Bool, true, false}
 use mathlib.Core.List.{List, [], _∷_, _++_}
@@ -33,20 +34,24 @@ count-front : (k : ℕ) (a rest : List ℕ) → laterCount k a ≤ length a → 
 unfolding laterCount
 count-front zero a rest h = refl
 count-front (suc k) [] rest h = none 1 (omega arith) h
-count-front (suc k) (b ∷ a) rest h = pick-count (ltb b 128) (laterCount k a) (laterCount k (a ++ rest)) (length a) (count-front k a rest) h
+count-front (suc k) (b ∷ a) rest h =
+    pick-count (ltb b 128) (laterCount k a) (laterCount k (a ++ rest)) (length a) (count-front k a rest) h
 
 value-front : (k : ℕ) (a rest : List ℕ) → laterCount k a ≤ length a → laterValue k (a ++ rest) ≡ laterValue k a
 unfolding laterCount laterValue
 value-front zero a rest h = refl
 value-front (suc k) [] rest h = none 1 (omega arith) h
 value-front (suc k) (b ∷ a) rest h =
-    ap (λ (v : ℕ). b % 128 + 128 * v) (pick-value (ltb b 128) (laterCount k a) (length a) (laterValue k a) (laterValue k (a ++ rest)) (value-front k a rest) h)
+    ap (λ (v : ℕ). b % 128 + 128 * v)
+    (pick-value (ltb b 128) (laterCount k a) (length a) (laterValue k a) (laterValue k (a ++ rest))
+    (value-front k a rest) h)
 
 count-grows : (k : ℕ) (a rest : List ℕ) → laterCount k a ≤ laterCount k (a ++ rest)
 unfolding laterCount
 count-grows zero a rest = omega arith
 count-grows (suc k) [] rest = count-least k rest
-count-grows (suc k) (b ∷ a) rest = pick-grows (ltb b 128) (laterCount k a) (laterCount k (a ++ rest)) (count-grows k a rest)
+count-grows (suc k) (b ∷ a) rest =
+    pick-grows (ltb b 128) (laterCount k a) (laterCount k (a ++ rest)) (count-grows k a rest)
 
 -- the header
 pub record Front (a rest : List ℕ) : Type 0 where
@@ -68,8 +73,11 @@ unfolding headerLength headerArgument
 front [] rest h = none 1 (omega arith) h
 front (b ∷ a) rest h = record {
   same-kind = refl;
-  same-argument = ap (argumentFrom (b % 16)) (front-value (moreFollow b) (laterCount 9 a) (length a) (laterValue 9 a) (laterValue 9 (a ++ rest)) (value-front 9 a rest) h);
-  same-length = front-length (moreFollow b) (laterCount 9 a) (laterCount 9 (a ++ rest)) (length a) (count-front 9 a rest) h;
+  same-argument =
+      ap (argumentFrom (b % 16)) (front-value (moreFollow b) (laterCount 9 a) (length a) (laterValue 9 a)
+      (laterValue 9 (a ++ rest)) (value-front 9 a rest) h);
+  same-length =
+      front-length (moreFollow b) (laterCount 9 a) (laterCount 9 (a ++ rest)) (length a) (count-front 9 a rest) h;
 }
 
 length-grows : (t : Bool) (x y : ℕ) → x ≤ y → pick t (suc x) 1 ≤ pick t (suc y) 1
@@ -79,4 +87,5 @@ length-grows false x y h = omega arith
 pub front-grows : (a rest : List ℕ) → headerLength a ≤ headerLength (a ++ rest)
 unfolding headerLength
 front-grows [] rest = length-bounds rest .0
-front-grows (b ∷ a) rest = length-grows (moreFollow b) (laterCount 9 a) (laterCount 9 (a ++ rest)) (count-grows 9 a rest)
+front-grows (b ∷ a) rest =
+    length-grows (moreFollow b) (laterCount 9 a) (laterCount 9 (a ++ rest)) (count-grows 9 a rest)

@@ -35,7 +35,8 @@ abbrev Turns : List ℕ → ℕ → Budget → Place → Budget → Place → Bo
 Turns s at left place rest body t =
     (all : Budget) (atoms : ℕ) → Running s all atoms at (left .0) → Running s all (atoms + 1) (place .0) (rest .0)
 
-turns : (s : List ℕ) (at : ℕ) (left : Budget) (place : Place) (rest : Budget) (body : Place) (t : Bool) → at < length s →
+turns : (s : List ℕ) (at : ℕ) (left : Budget) (place : Place) (rest : Budget) (body : Place) (t : Bool) →
+    at < length s →
     Past s at left place rest body t → Turns s at left place rest body t
 turns s at left place rest body t h e all atoms i =
     walk-on running s _ atoms at _ i left place rest body t e _
@@ -47,7 +48,8 @@ short-turn = told shortStep SH.Past by-first Turns turns
 pub turn : Told skipped SK.Past Turns
 turn = told skipped SK.Past by-step Turns turns
 
-module _ (s : List ℕ) (all : Budget) (atoms : ℕ) (at : Place) (left : Budget) (i : Running s all atoms (at .0) (left .0))
+module _ (s : List ℕ) (all : Budget) (atoms : ℕ) (at : Place) (left : Budget)
+    (i : Running s all atoms (at .0) (left .0))
   where
     -- refused by the step
     pub stops : (r : Skipped) (place : Place) (rest : Budget) (why : Refusal) → at .0 < length s →

@@ -136,7 +136,8 @@ module _ (s : List ℕ) (at : ℕ) (within : at ≤ length s) (budget : Budget) 
   pub forward : Past s at budget place rest body t → Forward s at (budget .0) (place .0) (rest .0) (body .0)
   forward e = forward-at (leb (at + headerLength (drop at s)) (length s)) refl e
 
--- what the loops are told of a step that passed an atom, by `skip_atom` or by the first byte alone, and what follows of it
+-- what the loops are told of a step that passed an atom, by `skip_atom` or by the first byte alone, and what follows of
+-- it
 abbrev pub Told : {X : Type 0} → (List ℕ → ℕ → Budget → X) → (Place → Budget → Place → Bool → X) →
     (List ℕ → ℕ → Budget → Place → Budget → Place → Bool → Type 0) → Type 0
 Told {X} step past P =

@@ -50,7 +50,8 @@ module _ (s : List ℕ) (at : ℕ) (left : Budget) (place : Place) (rest : Budge
     (h : at < length s) (p : Past s at left place rest from string) (full : left ≡ record { 0 = unlimited })
     (atoms body charge signs : ℕ) (i : Tallying s atoms body charge signs at) where
   -- an atom that is passed, with so many letters
-  passed : (n : ℕ) → n + from .0 ≤ place .0 → n ≡ pick string (letters (take (place .0 - from .0) (drop (from .0) s))) 0 →
+  passed : (n : ℕ) → n + from .0 ≤ place .0 →
+      n ≡ pick string (letters (take (place .0 - from .0) (drop (from .0) s))) 0 →
       Tallying s (atoms + 1) (body + (place .0 - from .0)) (charge + (unlimited - rest .0)) (signs + n) (place .0)
   passed n most e =
       let all : Past s at (record { 0 = unlimited }) place rest from string = record { is = rw (← full) (p .is) } in
@@ -113,7 +114,8 @@ Tallies s at left place rest from string =
 module _ (s : List ℕ) (at : ℕ) (left : Budget) (place : Place) (rest : Budget) (from : Place) (string : Bool)
     (h : at < length s) (p : Past s at left place rest from string) where
   fits-body : BodyFits s at left place rest from string
-  fits-body atoms body charge signs i full l = body-low s at left place rest from string h p full atoms body charge signs i l
+  fits-body atoms body charge signs i full l =
+      body-low s at left place rest from string h p full atoms body charge signs i l
 
   fits-charge : ChargeFits s at left place rest from string
   fits-charge atoms body charge signs i full l =
@@ -169,7 +171,8 @@ module _ (s : List ℕ) (atoms body charge signs : ℕ) (at : Place) (i : Tallyi
       ∙ rw (le-ltb _ _ l)
       (walk-answers tallyFrom s _ atoms (at .0) _ (i .walked) _ (λ fuel later k. tally-end s fuel later (at .0) _ k h))
 
-pub ruleset step-passed = (step-starts, step-inside, step-falls, step-less, body-fits, charge-fits, letters-fit, step-tally)
+pub ruleset step-passed =
+    (step-starts, step-inside, step-falls, step-less, body-fits, charge-fits, letters-fit, step-tally)
 
 pub ruleset short-passed =
     (short-starts, short-inside, short-falls, short-less, short-body-fits, short-charge-fits, short-letters-fit)

@@ -258,7 +258,8 @@ module _ (X : Type 0) (refused : Refusal → X) (a : X) where
       a ≡ ofSpecial taken refused i
   of-special taken i j k e f q = q ∙ ap (ofSpecial taken refused) (sym f ∙ e)
 
--- Of the toolchain's `needs` an export has these few; with all of them a wrong answer is searched for half as long again.
+-- Of the toolchain's `needs` an export has these few; with all of them a wrong answer is searched for half as long
+-- again.
 pub ruleset few = (tt, zero≤, toZ-ofZ, sfits-of)
 
 pub ruleset alike = (word-said, atom-said, skipped-said, ran-said, tally-said, version-said, integer-said)

@@ -41,31 +41,43 @@ some′ : (a b : ℕ) → 0 < a → 0 < b + 1 * a
 some′ a b h = omega arith
 
 module _ (j : ℕ) (J : suc j ≤ 1074) where
-  test-is : (m : ℕ) (e : ℤ) → down e ≤ 2 ^ 1074 → (ltb (m * up e * 2 ^ suc j) (1 * down e) || (eqb (m * up e * 2 ^ suc j) (1 * down e) && true)) ≡ leb (unitsOf m e) (2 ^ (1074 - suc j))
+  test-is : (m : ℕ) (e : ℤ) → down e ≤ 2 ^ 1074 →
+      (ltb (m * up e * 2 ^ suc j) (1 * down e) || (eqb (m * up e * 2 ^ suc j) (1 * down e) && true))
+      ≡ leb (unitsOf m e) (2 ^ (1074 - suc j))
   test-is m e d =
-      at-most (m * up e * 2 ^ suc j) (1 * down e) (ltb (m * up e * 2 ^ suc j) (1 * down e)) (eqb (m * up e * 2 ^ suc j) (1 * down e)) refl refl
+      at-most (m * up e * 2 ^ suc j) (1 * down e) (ltb (m * up e * 2 ^ suc j) (1 * down e))
+      (eqb (m * up e * 2 ^ suc j) (1 * down e)) refl refl
       ∙ ap (leb (m * up e * 2 ^ suc j)) (one-mul (down e))
       ∙ cross m e (suc j) J d
 
-  test-is′ : (m : ℕ) (e : ℤ) → down e ≤ 2 ^ 1074 → (ltb (m * up e * 2 ^ suc j) (1 * down e) || (eqb (1 * down e) (m * up e * 2 ^ suc j) && true)) ≡ leb (unitsOf m e) (2 ^ (1074 - suc j))
+  test-is′ : (m : ℕ) (e : ℤ) → down e ≤ 2 ^ 1074 →
+      (ltb (m * up e * 2 ^ suc j) (1 * down e) || (eqb (1 * down e) (m * up e * 2 ^ suc j) && true))
+      ≡ leb (unitsOf m e) (2 ^ (1074 - suc j))
   test-is′ m e d =
-      at-most′ (m * up e * 2 ^ suc j) (1 * down e) (ltb (m * up e * 2 ^ suc j) (1 * down e)) (eqb (1 * down e) (m * up e * 2 ^ suc j)) refl refl
+      at-most′ (m * up e * 2 ^ suc j) (1 * down e) (ltb (m * up e * 2 ^ suc j) (1 * down e))
+      (eqb (1 * down e) (m * up e * 2 ^ suc j)) refl refl
       ∙ ap (leb (m * up e * 2 ^ suc j)) (one-mul (down e))
       ∙ cross m e (suc j) J d
 
-  pub both : (x : Float) → Fine x → Ieee.le x (fin false 1 (negsuc j)) ≡ true → Ieee.le (fin true 1 (negsuc j)) x ≡ atMost (suc j) (floatMeaning x)
+  pub both : (x : Float) → Fine x → Ieee.le x (fin false 1 (negsuc j)) ≡ true →
+      Ieee.le (fin true 1 (negsuc j)) x ≡ atMost (suc j) (floatMeaning x)
   unfolding Ieee.le Ieee.lt Ieee.eq floatMeaning
   both nan d h = refl
   both (inf true) d h = refl
   both (inf false) d h = absurd (false≢true h)
   both (fin true m e) d h = test-is′ m e d
-  both (fin false m e) d h = rw (lt-ltb 0 (1 * down e + m * up e * 2 ^ suc j) (some (down e) (m * up e * 2 ^ suc j) (down-pos e))) (sym h ∙ test-is m e d)
+  both (fin false m e) d h =
+      rw (lt-ltb 0 (1 * down e + m * up e * 2 ^ suc j) (some (down e) (m * up e * 2 ^ suc j) (down-pos e)))
+      (sym h ∙ test-is m e d)
 
-  pub neither : (x : Float) → Fine x → Ieee.le x (fin false 1 (negsuc j)) ≡ false → false ≡ atMost (suc j) (floatMeaning x)
+  pub neither : (x : Float) → Fine x → Ieee.le x (fin false 1 (negsuc j)) ≡ false →
+      false ≡ atMost (suc j) (floatMeaning x)
   unfolding Ieee.le Ieee.lt Ieee.eq floatMeaning
   neither nan d h = refl
   neither (inf s) d h = refl
-  neither (fin true m e) d h = absurd (true≢false (rw (lt-ltb 0 (m * up e * 2 ^ suc j + 1 * down e) (some′ (down e) (m * up e * 2 ^ suc j) (down-pos e))) at h))
+  neither (fin true m e) d h =
+      absurd (true≢false (rw (lt-ltb 0 (m * up e * 2 ^ suc j + 1 * down e)
+      (some′ (down e) (m * up e * 2 ^ suc j) (down-pos e))) at h))
   neither (fin false m e) d h = sym h ∙ test-is m e d
 
 -- ---- two floats

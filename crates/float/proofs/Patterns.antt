@@ -33,11 +33,15 @@ module _ (x : Float) (F : T (fits binary64 x)) where
   own b e = subst (λ (n : ℕ). n < 2 * signWeight double) (sym e) (toBits-lt binary64 x F)
 
   module _ (b : ℕ) (r : N32.Narrowed32) (e : b ≡ toBits binary64 x) (a : r ≡ answer32 (narrowed double single b)) where
-    pub narrow-taken : (q : ℕ) (v : Float) → r ≡ N32.the-variants.Pattern q → v ≡ ofBits binary32 q → AsF32.Value v ≡ ifEqual x (narrowedMeaning single (floatMeaning x))
+    pub narrow-taken : (q : ℕ) (v : Float) → r ≡ N32.the-variants.Pattern q → v ≡ ofBits binary32 q →
+        AsF32.Value v ≡ ifEqual x (narrowedMeaning single (floatMeaning x))
     narrow-taken q v h w =
         let n : narrowed double single b ≡ kept q = kept32 (narrowed double single b) q (sym a ∙ h) in
         ap AsF32.Value (w ∙ narrowed-value b q (own b e) n ∙ ap (ofBits binary64) e ∙ ofBits-toBits binary64 x F)
         ∙ ap (ifEqual x) (sym n ∙ ap (narrowed double single) e ∙ narrowed-means)
 
-    pub narrow-lost : r ≡ N32.the-variants.None → AsF32.Refused R.ImpreciseCastWouldLoseData ≡ ifEqual x (narrowedMeaning single (floatMeaning x))
-    narrow-lost h = ap (ifEqual x) (sym (lost32 (narrowed double single b) (sym a ∙ h)) ∙ ap (narrowed double single) e ∙ narrowed-means)
+    pub narrow-lost : r ≡ N32.the-variants.None →
+        AsF32.Refused R.ImpreciseCastWouldLoseData ≡ ifEqual x (narrowedMeaning single (floatMeaning x))
+    narrow-lost h =
+        ap (ifEqual x) (sym (lost32 (narrowed double single b) (sym a ∙ h)) ∙ ap (narrowed double single) e
+        ∙ narrowed-means)

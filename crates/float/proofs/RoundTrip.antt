@@ -1,5 +1,5 @@
--- What the float writers write reads back, with anything before and after, under every way: the header as kind Float and its
--- count less 1, and then the float, of the same value, or for a NaN with the same bits.
+-- What the float writers write reads back, with anything before and after, under every way: the header as kind Float
+-- and its count less 1, and then the float, of the same value, or for a NaN with the same bits.
 use mathlib.Core.Path.{_≡_, refl, sym, ap, _∙_, subst}
 use mathlib.Core.List.{List, _++_, append-assoc}
 use Prim.Native.Nat.{ℕ, suc, _+_, _-_, _^_, _≤_, _<_}
@@ -36,25 +36,30 @@ header-one c (eight e) = rw e (refl, omega arith)
 
 pub bytes-length : (c b : ℕ) → Allowed c → length (floatBytes c b) ≡ suc c
 unfolding floatBytes
-bytes-length c b a = let h = header-one c a .0 in let l = length-append (headerBytes K.Float (c - 1)) (toLE c b) in let t = to-length c b in omega arith
+bytes-length c b a = let h = header-one c a .0 in let l = length-append (headerBytes K.Float (c - 1)) (toLE c b) in
+    let t = to-length c b in omega arith
 
 -- the header of what stands in front of anything
 pub head-back : (way : Way) (c b : ℕ) (before after : List ℕ) → Allowed c
-    → headerFrom way (before ++ (floatBytes c b ++ after)) (length before) ≡ H.Read (record { 0 = length before + 1 }) K.Float (c - 1)
+    → headerFrom way (before ++ (floatBytes c b ++ after)) (length before)
+    ≡ H.Read (record { 0 = length before + 1 }) K.Float (c - 1)
 unfolding floatBytes
 head-back way c b before after a =
     let h = header-one c a in
-    ap (λ (l : List ℕ). headerFrom way (before ++ l) (length before)) (append-assoc (headerBytes K.Float (c - 1)) (toLE c b) after)
+    ap (λ (l : List ℕ). headerFrom way (before ++ l) (length before))
+    (append-assoc (headerBytes K.Float (c - 1)) (toLE c b) after)
     ∙ header-back way K.Float (c - 1) before (toLE c b ++ after) (h .1)
     ∙ ap (λ (n : ℕ). H.Read (record { 0 = length before + n }) K.Float (c - 1)) (h .0)
 
 -- its number
-number-back : (c b : ℕ) (before after : List ℕ) → Allowed c → b < 256 ^ c → numberAt c (before ++ (floatBytes c b ++ after)) (length before + 1) ≡ b
+number-back : (c b : ℕ) (before after : List ℕ) → Allowed c → b < 256 ^ c →
+    numberAt c (before ++ (floatBytes c b ++ after)) (length before + 1) ≡ b
 unfolding floatBytes
 number-back c b before after a h =
     let first : List ℕ = headerBytes K.Float (c - 1) in
     number-reads c b (before ++ (floatBytes c b ++ after)) (length before + 1) (before ++ first) after
-    (ap (λ (l : List ℕ). before ++ l) (append-assoc first (toLE c b) after) ∙ sym (append-assoc before first (toLE c b ++ after)))
+    (ap (λ (l : List ℕ). before ++ l) (append-assoc first (toLE c b) after)
+    ∙ sym (append-assoc before first (toLE c b ++ after)))
     (sym (length-append before first ∙ ap (λ (n : ℕ). length before + n) (header-one c a .0)))
     ∙ mod-eq-of-lt h
 
@@ -66,27 +71,37 @@ past n c l e = omega arith
 
 -- and the float
 pub body-back : (way : Way) (c b : ℕ) (before after : List ℕ) → Allowed c → b < 256 ^ c
-    → floatBody way (before ++ (floatBytes c b ++ after)) (length before + 1) c ≡ FA.Read (record { 0 = length before + length (floatBytes c b) }) (floatOf c b) b
+    → floatBody way (before ++ (floatBytes c b ++ after)) (length before + 1) c
+    ≡ FA.Read (record { 0 = length before + length (floatBytes c b) }) (floatOf c b) b
 body-back way c b before after a h =
     let s : List ℕ = before ++ (floatBytes c b ++ after) in
     let whole : length s ≡ length before + (length (floatBytes c b) + length after) = simp length-append in
     sym (body-whole way s (length before + 1) c b (floatOf c b) (sym (number-back c b before after a h)) refl
-    (subst (λ (n : ℕ). length before + 1 + c ≤ n) (sym whole) (inside (length before) c (length (floatBytes c b)) (length after) (bytes-length c b a))))
-    ∙ ap (λ (n : ℕ). FA.Read (record { 0 = n }) (floatOf c b) b) (past (length before) c (length (floatBytes c b)) (bytes-length c b a))
+    (subst (λ (n : ℕ). length before + 1 + c ≤ n) (sym whole)
+    (inside (length before) c (length (floatBytes c b)) (length after) (bytes-length c b a))))
+    ∙ ap (λ (n : ℕ). FA.Read (record { 0 = n }) (floatOf c b) b)
+    (past (length before) c (length (floatBytes c b)) (bytes-length c b a))
 
 pub from-back : (way : Way) (c b : ℕ) (before after : List ℕ) → Allowed c → b < 256 ^ c
-    → floatFrom way (before ++ (floatBytes c b ++ after)) (length before + 1) K.Float c ≡ FA.Read (record { 0 = length before + length (floatBytes c b) }) (floatOf c b) b
+    → floatFrom way (before ++ (floatBytes c b ++ after)) (length before + 1) K.Float c
+    ≡ FA.Read (record { 0 = length before + length (floatBytes c b) }) (floatOf c b) b
 from-back way c b before after a h =
-    sym (from-body way (before ++ (floatBytes c b ++ after)) (length before + 1) c K.Float refl (is-allowed c a)) ∙ body-back way c b before after a h
+    sym (from-body way (before ++ (floatBytes c b ++ after)) (length before + 1) c K.Float refl (is-allowed c a))
+    ∙ body-back way c b before after a h
 
--- THE ROUND TRIP, of what any writer stored: `Stored` says that the value that is read is the value written, with its sign and
--- magnitude, and that a NaN's bits are
+-- THE ROUND TRIP, of what any writer stored: `Stored` says that the value that is read is the value written, with its
+-- sign and magnitude, and that a NaN's bits are
 pub written-back : (way : Way) (own bits : ℕ) (bytes before after : List ℕ) (S : Stored own bits bytes)
-    → (headerFrom way (before ++ (bytes ++ after)) (length before) ≡ H.Read (record { 0 = length before + 1 }) K.Float (S .count - 1))
-    × (floatFrom way (before ++ (bytes ++ after)) (length before + 1) K.Float (S .count) ≡ FA.Read (record { 0 = length before + length bytes }) (floatOf (S .count) (S .stored)) (S .stored))
+    → (headerFrom way (before ++ (bytes ++ after)) (length before)
+    ≡ H.Read (record { 0 = length before + 1 }) K.Float (S .count - 1))
+    × (floatFrom way (before ++ (bytes ++ after)) (length before + 1) K.Float (S .count)
+    ≡ FA.Read (record { 0 = length before + length bytes }) (floatOf (S .count) (S .stored)) (S .stored))
 written-back way own bits bytes before after S =
     let a = allowed-is (S .count) (S .its-count) in
-    rw (S .its-bytes) (head-back way (S .count) (S .stored) before after a, from-back way (S .count) (S .stored) before after a (S .its-room))
+    rw (S .its-bytes) (
+      head-back way (S .count) (S .stored) before after a,
+      from-back way (S .count) (S .stored) before after a (S .its-room),
+    )
 
 -- ---- the value writers
 
@@ -114,5 +129,6 @@ own-value (F.F32 x) F = value-four (toBits binary32 x) ∙ ofBits-toBits binary3
 own-value (F.F64 x) F = value-eight (toBits binary64 x) ∙ ofBits-toBits binary64 x F
 
 -- the value that is read is the value written
-pub value-back : (v : Float) (h : Held v) → floatValue (floatOf (stored-value v h .count) (stored-value v h .stored)) ≡ floatValue v
+pub value-back : (v : Float) (h : Held v) →
+    floatValue (floatOf (stored-value v h .count) (stored-value v h .stored)) ≡ floatValue v
 value-back v h = stored-value v h .value ∙ own-value v h

@@ -1,5 +1,5 @@
--- What the writers store for a pattern: the same value, in the fewest bytes; for a NaN the same bits at the same width. Over
--- every count: a writer of a width is one case. Rests on the laws of narrowing and widening.
+-- What the writers store for a pattern: the same value, in the fewest bytes; for a NaN the same bits at the same width.
+-- Over every count: a writer of a width is one case. Rests on the laws of narrowing and widening.
 use mathlib.Core.Path.{_≡_, refl, sym, ap, _∙_, subst}
 use mathlib.Core.Bool.{Bool, true, false≢true}
 use mathlib.Core.List.{List}
@@ -37,7 +37,8 @@ pub record Stored (own bits : ℕ) (bytes : List ℕ) : Type 0 where
   -- "A NaN is written at its own width with its own bits."
   pub nan-kept : (s : Bool) (t : ℕ) → meaning (layoutAt own) bits ≡ nan s t → (count ≡ own) × (stored ≡ bits)
   -- no fewer bytes hold the value
-  pub fewest : (c q : ℕ) → Allowed c → q < 256 ^ c → NotNan (meaning (layoutAt own) bits) → meaning (layoutAt c) q ≡ meaning (layoutAt own) bits → count ≤ c
+  pub fewest : (c q : ℕ) → Allowed c → q < 256 ^ c → NotNan (meaning (layoutAt own) bits) →
+      meaning (layoutAt c) q ≡ meaning (layoutAt own) bits → count ≤ c
 
 -- ---- what is read means what is stored
 
@@ -48,7 +49,8 @@ float-means c b (two e) = rw e (half-value b)
 float-means c b (four e) = rw e (ofBits-means binary32 b)
 float-means c b (eight e) = rw e (ofBits-means binary64 b)
 
-pub meaning-kept : (own bits : ℕ) (bytes : List ℕ) → Allowed own → (S : Stored own bits bytes) → floatMeans (floatOf (S .count) (S .stored)) ≡ plain (meaning (layoutAt own) bits)
+pub meaning-kept : (own bits : ℕ) (bytes : List ℕ) → Allowed own → (S : Stored own bits bytes) →
+    floatMeans (floatOf (S .count) (S .stored)) ≡ plain (meaning (layoutAt own) bits)
 meaning-kept own bits bytes a S = ap floatMeaning (S .value) ∙ float-means own bits a
 
 -- ---- each width that is stored as it is
@@ -71,7 +73,9 @@ least c (four e) = omega arith
 least c (eight e) = omega arith
 
 -- a pattern that is stored at its own width, where no narrower one holds it
-stored-own : (own b : ℕ) (bytes : List ℕ) → Allowed own → b < 256 ^ own → bytes ≡ floatBytes own b → ((c q : ℕ) → Allowed c → q < 256 ^ c → NotNan (meaning (layoutAt own) b) → meaning (layoutAt c) q ≡ meaning (layoutAt own) b → own ≤ c) → Stored own b bytes
+stored-own : (own b : ℕ) (bytes : List ℕ) → Allowed own → b < 256 ^ own → bytes ≡ floatBytes own b →
+    ((c q : ℕ) → Allowed c → q < 256 ^ c → NotNan (meaning (layoutAt own) b) →
+    meaning (layoutAt c) q ≡ meaning (layoutAt own) b → own ≤ c) → Stored own b bytes
 stored-own own b bytes a h e f = record {
   count = own;
   stored = b;
@@ -118,8 +122,10 @@ module _ (b : ℕ) (B : b < 256 ^ 4) where
         fewest = λ c p a r n e. least c a;
       }
 
-  single-fewest : narrowed single half b ≡ lost → (c q : ℕ) → Allowed c → q < 256 ^ c → NotNan (meaning single b) → meaning (layoutAt c) q ≡ meaning single b → 4 ≤ c
-  single-fewest h c q (two e) r n m = absurd (narrowed-lost single half b h q (at-count c 2 q e r, n, at-layout c 2 q (meaning single b) e m))
+  single-fewest : narrowed single half b ≡ lost → (c q : ℕ) → Allowed c → q < 256 ^ c → NotNan (meaning single b) →
+      meaning (layoutAt c) q ≡ meaning single b → 4 ≤ c
+  single-fewest h c q (two e) r n m =
+      absurd (narrowed-lost single half b h q (at-count c 2 q e r, n, at-layout c 2 q (meaning single b) e m))
   single-fewest h c q (four e) r n m = omega arith
   single-fewest h c q (eight e) r n m = omega arith
 
@@ -150,15 +156,19 @@ module _ (b : ℕ) (B : b < 256 ^ 8) where
       value = S .value ∙ value-four q ∙ narrowed-value b q B h ∙ sym (value-eight b);
       number = λ n. S .number (number-of (meaning single q) (meaning double b) (narrower .2) n) ∙ narrower .2;
       nan-kept = λ s t e. absurd (nan-lost double single b q s t h e);
-      fewest = λ c p a r n e. S .fewest c p a r (number-of (meaning single q) (meaning double b) (narrower .2) n) (e ∙ sym (narrower .2));
+      fewest = λ c p a r n e. S .fewest c p a r (number-of (meaning single q) (meaning double b) (narrower .2) n)
+          (e ∙ sym (narrower .2));
     }
 
-  double-fewest : narrowed double single b ≡ lost → (c q : ℕ) → Allowed c → q < 256 ^ c → NotNan (meaning double b) → meaning (layoutAt c) q ≡ meaning double b → 8 ≤ c
+  double-fewest : narrowed double single b ≡ lost → (c q : ℕ) → Allowed c → q < 256 ^ c → NotNan (meaning double b) →
+      meaning (layoutAt c) q ≡ meaning double b → 8 ≤ c
   double-fewest h c q (two e) r n m =
       let m′ : meaning half q ≡ meaning double b = at-layout c 2 q (meaning double b) e m in
       let k : NotNan (meaning half q) = number-of (meaning half q) (meaning double b) m′ n in
-      absurd (narrowed-lost double single b h (widened half single q) (widened-lt half-single q k, n, widened-keeps half-single q k ∙ m′))
-  double-fewest h c q (four e) r n m = absurd (narrowed-lost double single b h q (at-count c 4 q e r, n, at-layout c 4 q (meaning double b) e m))
+      absurd (narrowed-lost double single b h (widened half single q)
+      (widened-lt half-single q k, n, widened-keeps half-single q k ∙ m′))
+  double-fewest h c q (four e) r n m =
+      absurd (narrowed-lost double single b h q (at-count c 4 q e r, n, at-layout c 4 q (meaning double b) e m))
   double-fewest h c q (eight e) r n m = omega arith
 
   double-as-double : narrowed double single b ≡ lost → Stored 8 b (f64Bytes b)
@@ -183,9 +193,11 @@ level a b p q = omega arith
 
 -- equal numbers have equal bytes, whatever the widths that they come from
 pub one-form : (own bits own′ bits′ : ℕ) (bytes bytes′ : List ℕ) → Stored own bits bytes → Stored own′ bits′ bytes′
-    → NotNan (meaning (layoutAt own) bits) → meaning (layoutAt own) bits ≡ meaning (layoutAt own′) bits′ → bytes ≡ bytes′
+    → NotNan (meaning (layoutAt own) bits) → meaning (layoutAt own) bits ≡ meaning (layoutAt own′) bits′ →
+    bytes ≡ bytes′
 one-form own bits own′ bits′ bytes bytes′ S S′ n e =
-    let n′ : NotNan (meaning (layoutAt own′) bits′) = number-of (meaning (layoutAt own′) bits′) (meaning (layoutAt own) bits) (sym e) n in
+    let n′ : NotNan (meaning (layoutAt own′) bits′) =
+    number-of (meaning (layoutAt own′) bits′) (meaning (layoutAt own) bits) (sym e) n in
     let a = allowed-is (S .count) (S .its-count) in
     let a′ = allowed-is (S′ .count) (S′ .its-count) in
     let c : S .count ≡ S′ .count =
@@ -193,7 +205,8 @@ one-form own bits own′ bits′ bytes bytes′ S S′ n e =
     (S .fewest (S′ .count) (S′ .stored) a′ (S′ .its-room) n (S′ .number n′ ∙ sym e))
     (S′ .fewest (S .count) (S .stored) a (S .its-room) n′ (S .number n ∙ e)) in
     let m : meaning (layoutAt (S′ .count)) (S .stored) ≡ meaning (layoutAt (S′ .count)) (S′ .stored) =
-    at-layout (S .count) (S′ .count) (S .stored) (meaning (layoutAt (S′ .count)) (S′ .stored)) c (S .number n ∙ e ∙ sym (S′ .number n′)) in
+    at-layout (S .count) (S′ .count) (S .stored) (meaning (layoutAt (S′ .count)) (S′ .stored)) c
+    (S .number n ∙ e ∙ sym (S′ .number n′)) in
     let q : S .stored ≡ S′ .stored =
     one-pattern (layoutAt (S′ .count)) (S .stored) (S′ .stored)
     (pattern-lt (S′ .count) (S .stored) a′ (at-count (S .count) (S′ .count) (S .stored) c (S .its-room)))
@@ -212,5 +225,6 @@ module _ (own bits : ℕ) (bytes : List ℕ) (S : Stored own bits bytes) where
   pub zero-two : (s : Bool) → meaning (layoutAt own) bits ≡ finite s 0 → bytes ≡ floatBytes 2 (withSign half s 0)
   zero-two s e = takes-two (withSign half s 0) (narrowed-zero (layoutAt own) half bits s (lit< tt) e)
 
-  pub infinity-two : (s : Bool) → meaning (layoutAt own) bits ≡ infinite s → bytes ≡ floatBytes 2 (withSign half s (infinity half))
+  pub infinity-two : (s : Bool) → meaning (layoutAt own) bits ≡ infinite s →
+      bytes ≡ floatBytes 2 (withSign half s (infinity half))
   infinity-two s e = takes-two (withSign half s (infinity half)) (narrowed-infinite (layoutAt own) half bits s e)

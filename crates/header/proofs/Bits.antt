@@ -13,8 +13,10 @@ no-digit : (A B x y : ℕ) → x < 2 → y < 2 → (A ≡ B → ⊥) → A * 2 +
 no-digit A B x y p q h e = h (omega arith)
 
 -- one binary digit more
-digit : (A B a b : ℕ) → a < 2 → b < 2 → (t u : Bool) → leb b a ≡ t → eqb A B ≡ u → eqb (A * 2 + min a b) (B * 2 + b) ≡ (t && u)
-digit A B a b p q true true f g = let m = min-eq-right (leb-true b a f) in let e = eqb-true A B g in eq-eqb (A * 2 + min a b) (B * 2 + b) (rw (m, e) refl)
+digit : (A B a b : ℕ) → a < 2 → b < 2 → (t u : Bool) → leb b a ≡ t → eqb A B ≡ u →
+    eqb (A * 2 + min a b) (B * 2 + b) ≡ (t && u)
+digit A B a b p q true true f g = let m = min-eq-right (leb-true b a f) in let e = eqb-true A B g in
+    eq-eqb (A * 2 + min a b) (B * 2 + b) (rw (m, e) refl)
 digit A B a b p q true false f g =
     let m = min-eq-right (leb-true b a f) in
     rw m (ne-eqb _ _ (no-digit A B b b q q (eqb-false A B g)))
@@ -41,7 +43,8 @@ every (suc n) mask word h =
     let whole : mask ≡ mask / 2 * 2 + mask % 2 = omega arith in
     ap (λ (x : ℕ). eqb x mask) (and-step word mask)
     ∙ ap (eqb (bitAnd (word / 2) (mask / 2) * 2 + min (word % 2) (mask % 2))) whole
-    ∙ digit (bitAnd (word / 2) (mask / 2)) (mask / 2) (word % 2) (mask % 2) (omega arith) (omega arith) (leb (mask % 2) (word % 2)) (eqb (bitAnd (word / 2) (mask / 2)) (mask / 2)) refl refl
+    ∙ digit (bitAnd (word / 2) (mask / 2)) (mask / 2) (word % 2) (mask % 2) (omega arith) (omega arith)
+    (leb (mask % 2) (word % 2)) (eqb (bitAnd (word / 2) (mask / 2)) (mask / 2)) refl refl
     ∙ ap (λ (u : Bool). leb (mask % 2) (word % 2) && u) (every n (mask / 2) (word / 2) l)
   where
     halved : {m p : ℕ} → m < p * 2 → m / 2 < p

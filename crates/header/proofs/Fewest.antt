@@ -1,5 +1,5 @@
--- The writer uses the fewest bytes that any header with that kind and argument has; no header takes more than ten, and no
--- argument more than 64 bits.
+-- The writer uses the fewest bytes that any header with that kind and argument has; no header takes more than ten, and
+-- no argument more than 64 bits.
 use mathlib.Core.Path.{_≡_, refl}
 use mathlib.Core.Bool.{Bool, true, false}
 use mathlib.Core.List.{List, [], _∷_}
@@ -16,7 +16,8 @@ use Rattle.header.proofs.Groups.{last-group, group}
 use Rattle.header.proofs.Answers.{bytes-one, bytes-more}
 
 -- n later bytes hold a number below 128 ^ n
-value-low-at : (k b : ℕ) (l : List ℕ) → laterValue k l < 128 ^ laterCount k l → (t : Bool) → ltb b 128 ≡ t → laterValue (suc k) (b ∷ l) < 128 ^ laterCount (suc k) (b ∷ l)
+value-low-at : (k b : ℕ) (l : List ℕ) → laterValue k l < 128 ^ laterCount k l → (t : Bool) → ltb b 128 ≡ t →
+    laterValue (suc k) (b ∷ l) < 128 ^ laterCount (suc k) (b ∷ l)
 value-low-at k b l ih true e = let h = ltb-true b 128 e in rw (value-last k b l h, count-last k b l h) (omega arith)
 value-low-at k b l ih false e =
     let h = ltb-false b 128 e in
@@ -29,7 +30,8 @@ value-low (suc k) [] = lit< tt
 value-low (suc k) (b ∷ l) = value-low-at k b l (value-low k l) (ltb b 128) refl
 
 -- a number below 128 ^ n is written in at most n later bytes
-few-at : (k v n : ℕ) → ((w : ℕ) → w < 128 ^ n → length (laterBytes k w) ≤ n) → v < 128 ^ suc n → (t : Bool) → ltb v 128 ≡ t → length (laterBytes (suc k) v) ≤ suc n
+few-at : (k v n : ℕ) → ((w : ℕ) → w < 128 ^ n → length (laterBytes k w) ≤ n) → v < 128 ^ suc n → (t : Bool) →
+    ltb v 128 ≡ t → length (laterBytes (suc k) v) ≤ suc n
 few-at k v n ih l true e = rw (last-group k v (ltb-true v 128 e)) (omega arith)
 few-at k v n ih l false e =
     let z : v < 128 ^ n * 128 = rw (pow-suc 128 n) at l in
@@ -77,20 +79,25 @@ unfolding headerArgument
 argument-word l = mod-lt _ {m = 2 ^ 64} (lit< tt)
 
 -- THE FEWEST BYTES: whatever bytes a header has, the writer takes no more for its kind and argument
-written-at : (kind : Kind) (arg n : ℕ) → 1 ≤ n → (16 ≤ arg → length (laterBytes 9 (arg / 16)) ≤ n) → (t : Bool) → ltb arg 16 ≡ t → length (headerBytes kind arg) ≤ suc n
+written-at : (kind : Kind) (arg n : ℕ) → 1 ≤ n → (16 ≤ arg → length (laterBytes 9 (arg / 16)) ≤ n) → (t : Bool) →
+    ltb arg 16 ≡ t → length (headerBytes kind arg) ≤ suc n
 written-at kind arg n p f true e = rw (bytes-one kind arg (ltb-true arg 16 e)) (omega arith)
-written-at kind arg n p f false e = let h = ltb-false arg 16 e in let g = f h in rw (bytes-more kind arg h) (omega arith)
+written-at kind arg n p f false e = let h = ltb-false arg 16 e in let g = f h in
+    rw (bytes-more kind arg h) (omega arith)
 
 long-low : (x v n : ℕ) → v < 128 ^ n → (x % 16 + 16 * v) % 2 ^ 64 / 16 < 128 ^ n
-long-low x v n h = let m : (x % 16 + 16 * v) % 2 ^ 64 ≤ x % 16 + 16 * v = mod-le (x % 16 + 16 * v) (2 ^ 64) in omega arith
+long-low x v n h = let m : (x % 16 + 16 * v) % 2 ^ 64 ≤ x % 16 + 16 * v = mod-le (x % 16 + 16 * v) (2 ^ 64) in
+    omega arith
 
-fewest-at : (kind : Kind) (l : List ℕ) (t : Bool) → moreFollow (firstByte l) ≡ t → length (headerBytes kind (headerArgument l)) ≤ headerLength l
+fewest-at : (kind : Kind) (l : List ℕ) (t : Bool) → moreFollow (firstByte l) ≡ t →
+    length (headerBytes kind (headerArgument l)) ≤ headerLength l
 unfolding headerArgument headerLength
 fewest-at kind l true e =
     let r : List ℕ = afterFirst l in
     let arg : ℕ = argumentFrom (firstByte l % 16) (laterValue 9 r) in
     let n = count-least 8 r in
-    let low : arg / 16 < 128 ^ laterCount 9 r = long-low (firstByte l) (laterValue 9 r) (laterCount 9 r) (value-low 9 r) in
+    let low : arg / 16 < 128 ^ laterCount 9 r =
+    long-low (firstByte l) (laterValue 9 r) (laterCount 9 r) (value-low 9 r) in
     rw e (written-at kind arg (laterCount 9 r) n (λ h. few-least (laterCount 9 r) (arg / 16) n low) (ltb arg 16) refl)
   where
     few-least : (n v : ℕ) → 1 ≤ n → v < 128 ^ n → length (laterBytes 9 v) ≤ n

@@ -1,5 +1,5 @@
--- Filled reading is reading the source with zeros after it: they change neither the kind, nor the argument, nor the bytes
--- that a header takes.
+-- Filled reading is reading the source with zeros after it: they change neither the kind, nor the argument, nor the
+-- bytes that a header takes.
 use mathlib.Core.Path.{_≡_, refl, ap}
 use mathlib.Core.List.{List, [], _∷_, _++_}
 use Prim.Native.Nat.{ℕ, zero, suc}

@@ -12,7 +12,8 @@ abbrev pub Each : (ℕ → Type 0) → List ℕ → Type 0
 Each P [] = Unit
 Each P (d ∷ ds) = P d × Each P ds
 
-each-at : (P : ℕ → Type 0) (d : ℕ) (ds : List ℕ) (n : ℕ) (t : Bool) → eqb n d ≡ t → P d → (listed n ds ≡ true → P n) → listed n (d ∷ ds) ≡ true → P n
+each-at : (P : ℕ → Type 0) (d : ℕ) (ds : List ℕ) (n : ℕ) (t : Bool) → eqb n d ≡ t → P d → (listed n ds ≡ true → P n) →
+    listed n (d ∷ ds) ≡ true → P n
 unfolding listed
 each-at P d ds n true e p rest h = subst P (sym (eqb-true n d e)) p
 each-at P d ds n false e p rest h = rest (rw e at h)
@@ -24,4 +25,15 @@ each P (d ∷ ds) h n e = each-at P d ds n (eqb n d) refl (h .0) (each P ds (h .
 
 -- an allowed count is 1 to 16
 pub allowed-bounds : (n : ℕ) → allowedCount n ≡ true → (0 < n) × (n ≤ 16)
-allowed-bounds n h = each (λ m. (0 < m) × (m ≤ 16)) integersRead ((lit< tt, lit≤ tt), ((lit< tt, lit≤ tt), ((lit< tt, lit≤ tt), ((lit< tt, lit≤ tt), ((lit< tt, lit≤ tt), ((lit< tt, lit≤ tt), ((lit< tt, lit≤ tt), tt))))))) n h
+allowed-bounds n h =
+    each (λ m. (0 < m) × (m ≤ 16)) integersRead (
+      (lit< tt, lit≤ tt),
+      (
+        (lit< tt, lit≤ tt),
+        (
+          (lit< tt, lit≤ tt),
+          ((lit< tt, lit≤ tt), ((lit< tt, lit≤ tt), ((lit< tt, lit≤ tt), ((lit< tt, lit≤ tt), tt)))),
+        ),
+      ),
+    ) n
+    h

@@ -25,7 +25,8 @@ module _ (s : List ℕ) (place n : ℕ) where
   pub string-length : startOf s place + n ≤ length s → length (stringOf s place n) ≡ n
   string-length h = length-take-le n (drop (startOf s place) s) (rw length-drop (omega arith))
 
-  pub lent-read : startOf s place + n ≤ length s → lentString s place n ≡ stringRead s place n (lentMark (startOf s place) n)
+  pub lent-read : startOf s place + n ≤ length s →
+      lentString s place n ≡ stringRead s place n (lentMark (startOf s place) n)
   unfolding lentString
   lent-read h = simp (le-ltb (length s) (startOf s place + n) h)
 
@@ -34,11 +35,13 @@ module _ (s : List ℕ) (place n : ℕ) where
   lent-eof h = simp (lt-ltb (length s) (startOf s place + n) h)
 
 module _ (s : List ℕ) (place n : ℕ) (scratch : List ℕ) where
-  pub copied-read : startOf s place + n ≤ length s → n ≤ length scratch → copiedString s place n scratch ≡ stringRead s place n (copiedMark n)
+  pub copied-read : startOf s place + n ≤ length s → n ≤ length scratch →
+      copiedString s place n scratch ≡ stringRead s place n (copiedMark n)
   unfolding copiedString
   copied-read h r = simp (le-ltb (length s) (startOf s place + n) h, le-ltb (length scratch) n r)
 
-  pub copied-no-room : startOf s place + n ≤ length s → length scratch < n → copiedString s place n scratch ≡ B.Refused (record { 0 = startOf s place }) (noRoom n)
+  pub copied-no-room : startOf s place + n ≤ length s → length scratch < n →
+      copiedString s place n scratch ≡ B.Refused (record { 0 = startOf s place }) (noRoom n)
   unfolding copiedString
   copied-no-room h r = simp (le-ltb (length s) (startOf s place + n) h, lt-ltb (length scratch) n r)
 
@@ -46,12 +49,14 @@ module _ (s : List ℕ) (place n : ℕ) (scratch : List ℕ) where
   unfolding copiedString
   copied-eof h = simp (lt-ltb (length s) (startOf s place + n) h)
 
-  pub scratch-read : startOf s place + n ≤ length s → n ≤ length scratch → copiedScratch s place n scratch ≡ stringOf s place n ++ drop n scratch
+  pub scratch-read : startOf s place + n ≤ length s → n ≤ length scratch →
+      copiedScratch s place n scratch ≡ stringOf s place n ++ drop n scratch
   unfolding copiedScratch
   scratch-read h r =
       let l : length (stringOf s place n) ≡ n = string-length s place n h in
       let room : length (stringOf s place n) ≤ length scratch = omega arith in
-      simp (le-ltb (length s) (startOf s place + n) h) (content-room (stringOf s place n) scratch room ∙ ap (λ (k : ℕ). stringOf s place n ++ drop k scratch) l)
+      simp (le-ltb (length s) (startOf s place + n) h)
+      (content-room (stringOf s place n) scratch room ∙ ap (λ (k : ℕ). stringOf s place n ++ drop k scratch) l)
 
   pub scratch-no-room : startOf s place + n ≤ length s → length scratch < n → copiedScratch s place n scratch ≡ scratch
   unfolding copiedScratch

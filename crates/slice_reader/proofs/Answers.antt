@@ -1,4 +1,5 @@
--- The plain types of the functions over the reader, the four answers with the structs that hold each beside the reader, and what a slice gives of each.
+-- The plain types of the functions over the reader, the four answers with the structs that hold each beside the reader,
+-- and what a slice gives of each.
 use mathlib.Core.Path.{refl}
 use mathlib.Core.List.{[], _∷_}
 use mir.Syntax.{erased}
@@ -41,7 +42,11 @@ abbrev pub kind : Param
 kind = record { type = Kind.the-row; plain = of-enum Kind.the-type Kind′.the-laws tt Kind′.the-plain Kind′.the-copy }
 
 abbrev pub budget : Param
-budget = record { type = Budget.the-row; plain = of-struct Budget.the-type Budget′.the-laws Budget′.the-plain Budget′.the-copy }
+budget = record {
+  type = Budget.the-row;
+  plain =
+      of-struct Budget.the-type Budget′.the-laws Budget′.the-plain Budget′.the-copy;
+}
 
 -- a struct's name does not depend on the lifetime
 abbrev any : NamedLft

@@ -1,5 +1,6 @@
--- Every contract of a function over the reader leaves one result, stated over the contract as it is generated: any two results that it permits of the same parameters are one, or, of the reads, have one answer, and of the slice still to be read one content and one place where it lies.
--- Assumes nothing.
+-- Every contract of a function over the reader leaves one result, stated over the contract as it is generated: any two
+-- results that it permits of the same parameters are one, or, of the reads, have one answer, and of the slice still to
+-- be read one content and one place where it lies. Assumes nothing.
 use mathlib.Core.Path.{_≡_, sym, _∙_}
 use mathlib.Core.List.{List, [], _∷_}
 use Prim.Native.Nat.{ℕ}
@@ -39,26 +40,40 @@ Sameness T = (κs : Lfts (T .signature .lifetimes)) → Res (T .signature) κs �
 
 module _ (T : Ended) (Same : Sameness T) (c : Written T) where
   pub record One : Type 2 where
-    pub one : {M : Type 1} (𝓤 : URA M) (H : Heap 𝓤) (A : Atoms 𝓤) (mem : Memory → SProp 𝓤) (run : Routine → Fun 𝓤) (κs : Lfts (T .signature .lifetimes)) (a : Args (T .signature) κs) (g : c M 𝓤 H A mem run κs a .ghost) (r₁ r₂ : Res (T .signature) κs) (e₁ e₂ : AtExit T κs)
-        → ent 𝓤 (sep 𝓤 (c M 𝓤 H A mem run κs a .ensures g r₁ e₁) (c M 𝓤 H A mem run κs a .ensures g r₂ e₂)) (fact 𝓤 (Same κs r₁ r₂))
+    pub one : {M : Type 1} (𝓤 : URA M) (H : Heap 𝓤) (A : Atoms 𝓤) (mem : Memory → SProp 𝓤) (run : Routine → Fun 𝓤)
+        (κs : Lfts (T .signature .lifetimes)) (a : Args (T .signature) κs) (g : c M 𝓤 H A mem run κs a .ghost)
+        (r₁ r₂ : Res (T .signature) κs) (e₁ e₂ : AtExit T κs)
+        → ent 𝓤 (sep 𝓤 (c M 𝓤 H A mem run κs a .ensures g r₁ e₁) (c M 𝓤 H A mem run κs a .ensures g r₂ e₂))
+        (fact 𝓤 (Same κs r₁ r₂))
 
 -- a contract leaves one result if what it gives does
 module _ {M : Type 1} (𝓤 : URA M) (P₁ P₂ : SProp 𝓤) {φ₁ φ₂ ψ : Type 0} where
   of-both : ent 𝓤 P₁ (fact 𝓤 φ₁) → ent 𝓤 P₂ (fact 𝓤 φ₂) → (φ₁ → φ₂ → ψ) → ent 𝓤 (sep 𝓤 P₁ P₂) (fact 𝓤 ψ)
-  of-both h₁ h₂ k = fact-use 𝓤 φ₁ (via 𝓤 P₁ (fst∗ 𝓤 P₁ P₂) h₁) (λ f₁. fact-use 𝓤 φ₂ (via 𝓤 P₂ (snd∗ 𝓤 P₁ P₂) h₂) (λ f₂. factI 𝓤 ψ (sep 𝓤 P₁ P₂) (k f₁ f₂)))
+  of-both h₁ h₂ k =
+      fact-use 𝓤 φ₁ (via 𝓤 P₁ (fst∗ 𝓤 P₁ P₂) h₁)
+      (λ f₁. fact-use 𝓤 φ₂ (via 𝓤 P₂ (snd∗ 𝓤 P₁ P₂) h₂) (λ f₂. factI 𝓤 ψ (sep 𝓤 P₁ P₂) (k f₁ f₂)))
 
-gives-one : {T : Ended} {Same : Sameness T} {F : Finding T} {c : Written T} → Gives T F c → ((κs : Lfts (T .signature .lifetimes)) (a : Args (T .signature) κs) (r₁ r₂ : Res (T .signature) κs) → F κs a r₁ → F κs a r₂ → Same κs r₁ r₂) → One T Same c
+gives-one : {T : Ended} {Same : Sameness T} {F : Finding T} {c : Written T} → Gives T F c →
+    ((κs : Lfts (T .signature .lifetimes)) (a : Args (T .signature) κs) (r₁ r₂ : Res (T .signature) κs) → F κs a r₁ →
+    F κs a r₂ → Same κs r₁ r₂) → One T Same c
 gives-one {c = c} h same = record {
   one = λ {M} 𝓤 H A mem run κs a g r₁ r₂ e₁ e₂.
-      of-both 𝓤 (c M 𝓤 H A mem run κs a .ensures g r₁ e₁) (c M 𝓤 H A mem run κs a .ensures g r₂ e₂) (h .gives 𝓤 H A mem run κs a g r₁ e₁) (h .gives 𝓤 H A mem run κs a g r₂ e₂) (same κs a r₁ r₂);
+      of-both 𝓤 (c M 𝓤 H A mem run κs a .ensures g r₁ e₁) (c M 𝓤 H A mem run κs a .ensures g r₂ e₂)
+      (h .gives 𝓤 H A mem run κs a g r₁ e₁) (h .gives 𝓤 H A mem run κs a g r₂ e₂) (same κs a r₁ r₂);
 }
 
 -- the same answer, beside a reader of the same bytes at the same place
 abbrev SameRead : (X : Beside) → X .D → X .D → Type 0
-SameRead X r₁ r₂ = (X .answer r₁ ≡ X .answer r₂) × ((now (X .reader r₁ .«data») ≡ now (X .reader r₂ .«data»)) × (ptr (X .reader r₁ .«data») ≡ ptr (X .reader r₂ .«data»)))
+SameRead X r₁ r₂ =
+    (X .answer r₁ ≡ X .answer r₂) ×
+    ((now (X .reader r₁ .«data») ≡ now (X .reader r₂ .«data»)) ×
+    (ptr (X .reader r₁ .«data») ≡ ptr (X .reader r₂ .«data»)))
 
-carried-one : (X : Beside) (Ps : List Param) (given : Gift X Ps) (place : X .type .D → ℕ) (κs : Lfts 1) (a : Args (reading X Ps .signature) κs) (r₁ r₂ : X .D) → carried X Ps given place κs a r₁ → carried X Ps given place κs a r₂ → SameRead X r₁ r₂
-carried-one X Ps given place κs a r₁ r₂ e f = (simp (e .0, f .0), (simp (e .0, e .1 .0, f .0, f .1 .0), simp (e .0, e .1 .1, f .0, f .1 .1)))
+carried-one : (X : Beside) (Ps : List Param) (given : Gift X Ps) (place : X .type .D → ℕ) (κs : Lfts 1)
+    (a : Args (reading X Ps .signature) κs) (r₁ r₂ : X .D) → carried X Ps given place κs a r₁ →
+    carried X Ps given place κs a r₂ → SameRead X r₁ r₂
+carried-one X Ps given place κs a r₁ r₂ e f =
+    (simp (e .0, f .0), (simp (e .0, e .1 .0, f .0, f .1 .0), simp (e .0, e .1 .1, f .0, f .1 .1)))
 
 pub from-one : One from.ended (λ κs r₁ r₂. r₁ .«data» ≡ r₂ .«data») (λ M 𝓤. from.clauses 𝓤)
 from-one = gives-one from-gives (λ κs a r₁ r₂ f₁ f₂. f₁ ∙ sym f₂)
@@ -90,8 +105,10 @@ read-integer-one = gives-one read-integer-gives (carried-one integers (kind ∷ 
 pub read-float-one : One read-float.ended (λ κs. SameRead floats) (λ M 𝓤. read-float.clauses 𝓤)
 read-float-one = gives-one read-float-gives (carried-one floats (kind ∷ count ∷ []) float-given floatPlace)
 
-pub buffered-read-bytes-one : One buffered-read-bytes.ended (λ κs. SameRead strings) (λ M 𝓤. buffered-read-bytes.clauses 𝓤)
-buffered-read-bytes-one = gives-one buffered-read-bytes-gives (carried-one strings (count ∷ []) string-given stringPlace)
+pub buffered-read-bytes-one : One buffered-read-bytes.ended (λ κs. SameRead strings)
+    (λ M 𝓤. buffered-read-bytes.clauses 𝓤)
+buffered-read-bytes-one =
+    gives-one buffered-read-bytes-gives (carried-one strings (count ∷ []) string-given stringPlace)
 
 pub read-atom-one : One read-atom.ended (λ κs. SameRead atoms) (λ M 𝓤. read-atom.clauses 𝓤)
 read-atom-one = gives-one read-atom-gives (carried-one atoms (budget ∷ []) atom-given atomPlace)

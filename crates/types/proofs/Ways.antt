@@ -23,10 +23,14 @@ module _ {X : Type 0} (way : Way) (length end : ℕ) (taken : ℕ → X) (eof : 
   up-to-eof h e = simp (lt-leb end length h, e)
 
   -- either way the place is from the start, which is within the source, to the source's end
-  pub up-to-between : (place : X → ℕ) → ((at : ℕ) → place (taken at) ≡ at) → place eof ≡ length → (at : ℕ) → at ≤ length → at ≤ end → (at ≤ place (upTo way length end taken eof)) × (place (upTo way length end taken eof) ≤ length)
+  pub up-to-between : (place : X → ℕ) → ((at : ℕ) → place (taken at) ≡ at) → place eof ≡ length → (at : ℕ) →
+      at ≤ length → at ≤ end →
+      (at ≤ place (upTo way length end taken eof)) × (place (upTo way length end taken eof) ≤ length)
   up-to-between place t e at h k = between (leb end length) (exact way) refl
     where
-      between : (u v : Bool) → leb end length ≡ u → (at ≤ place (pick u (taken end) (pick v eof (taken length)))) × (place (pick u (taken end) (pick v eof (taken length))) ≤ length)
+      between : (u v : Bool) → leb end length ≡ u →
+          (at ≤ place (pick u (taken end) (pick v eof (taken length)))) ×
+          (place (pick u (taken end) (pick v eof (taken length))) ≤ length)
       between true v f = let l = leb-true end length f in rw (t end) (k, l)
       between false true f = rw e (h, omega arith)
       between false false f = rw (t length) (h, omega arith)

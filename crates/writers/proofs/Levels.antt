@@ -79,7 +79,8 @@ module _ (n : ℕ) (count : Count n) where
       firstThat p integersWritten ≡ n
   unfolding firstThat
   shortest p more past h =
-      let none = first-above p (smaller n) (λ d l. not-both (p d) (λ y. sym (more d (smaller n) l y) ∙ past)) integersWritten in
+      let none = first-above p (smaller n) (λ d l. not-both (p d) (λ y. sym (more d (smaller n) l y) ∙ past))
+      integersWritten in
       none ∙ ap (firstThat p) (count .0) ∙ simp h
 
   -- what is stored: the header byte, and the n lowest bytes of what w bytes hold for the value

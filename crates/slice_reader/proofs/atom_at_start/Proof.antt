@@ -1,5 +1,5 @@
--- `slice_reader::atom_at_start` meets its contract: what `atom::read_atom_by` ensures at the place 0, with no scratch, is the
--- definition.
+-- `slice_reader::atom_at_start` meets its contract: what `atom::read_atom_by` ensures at the place 0, with no scratch,
+-- is the definition.
 use borrow.Author.Needs.{needs}
 use Rattle.slice_reader.specs.Given.{atomGiven}
 use Rattle.slice_reader.proofs.atom_at_start.Statement.{statement}

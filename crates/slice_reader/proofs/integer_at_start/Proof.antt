@@ -1,4 +1,5 @@
--- `slice_reader::integer_at_start` meets its contract: what `integer::read_from` ensures at the place 0 is the definition.
+-- `slice_reader::integer_at_start` meets its contract: what `integer::read_from` ensures at the place 0 is the
+-- definition.
 use borrow.Author.Needs.{needs}
 use Rattle.slice_reader.specs.Given.{integerGiven}
 use Rattle.slice_reader.proofs.integer_at_start.Statement.{statement}

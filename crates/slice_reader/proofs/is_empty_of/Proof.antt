@@ -1,5 +1,5 @@
--- `slice_reader::is_empty_of` meets its contract, by the law of the functions that ask the reader of a slice for a plain value.
--- Assumes nothing.
+-- `slice_reader::is_empty_of` meets its contract, by the law of the functions that ask the reader of a slice for a
+-- plain value. Assumes nothing.
 use lib.Dec.{eqb}
 use lib.ListN.{length}
 use contract.Monad.{fact-mono}
@@ -25,6 +25,9 @@ pub is-empty-of-spec : {M : Type 1} → statement.statement M
 unfolding code.routine tablesOf
 is-empty-of-spec 𝓤 H 𝓜 𝓖 𝓡 =
     stated 𝓤 H 𝓜 𝓖 𝓡 code.env clause key.name code.function (code.unfolded 𝓤 H 𝓜 𝓡)
-    (tells-of yes-or-no (λ s. eqb (length s) 0) 𝓤 H (𝓖 .A) (givenOf 𝓤 H 𝓜 𝓖) (tablesOf 𝓤 H 𝓜 (tables 𝓤 H 𝓜 𝓡 code.env)) new-def.name next-def.name
-    (heard 𝓤 H 𝓜 𝓖 𝓡 code.env from-gives new-def.name new-def.routine code.calls-slice-reader·SliceReader·from (new-thm.met 𝓤 H 𝓜 𝓖 𝓡))
-    (heard 𝓤 H 𝓜 𝓖 𝓡 code.env is-empty-gives next-def.name next-def.routine code.calls-slice-reader·SliceReader·is-empty (next-thm.met 𝓤 H 𝓜 𝓖 𝓡)))
+    (tells-of yes-or-no (λ s. eqb (length s) 0) 𝓤 H (𝓖 .A) (givenOf 𝓤 H 𝓜 𝓖) (tablesOf 𝓤 H 𝓜 (tables 𝓤 H 𝓜 𝓡 code.env))
+    new-def.name next-def.name
+    (heard 𝓤 H 𝓜 𝓖 𝓡 code.env from-gives new-def.name new-def.routine code.calls-slice-reader·SliceReader·from
+    (new-thm.met 𝓤 H 𝓜 𝓖 𝓡))
+    (heard 𝓤 H 𝓜 𝓖 𝓡 code.env is-empty-gives next-def.name next-def.routine code.calls-slice-reader·SliceReader·is-empty
+    (next-thm.met 𝓤 H 𝓜 𝓖 𝓡)))

@@ -30,8 +30,11 @@ returns : tie.Need-returns
 returns c =
     let a = c .before .before .before .args in
     let w = c .before .within in
-    let s = now (a .«data») in
-    (whole-tail s (w .result) ∙ ap (λ (k : ℕ). drop k s) (w .ensures .0), ap (λ (k : ℕ). (ptr (a .«data») .0, k + ptr (a .«data») .1)) (w .ensures .0))
+    let s = now (a .«data») in (
+      whole-tail s (w .result)
+          ∙ ap (λ (k : ℕ). drop k s) (w .ensures .0),
+      ap (λ (k : ℕ). (ptr (a .«data») .0, k + ptr (a .«data») .1)) (w .ensures .0),
+    )
 
 pub left-from-spec : {M : Type 1} → statement M
 left-from-spec = tie.close (tie.spec within-requires sub-result part-result-start part-result-end returns)

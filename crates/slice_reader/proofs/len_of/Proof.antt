@@ -1,5 +1,5 @@
--- `slice_reader::len_of` meets its contract, by the law of the functions that ask the reader of a slice for a plain value.
--- Assumes nothing.
+-- `slice_reader::len_of` meets its contract, by the law of the functions that ask the reader of a slice for a plain
+-- value. Assumes nothing.
 use lib.ListN.{length}
 use contract.Monad.{fact-mono}
 use contract.Running.{givenOf, tables, tablesOf}
@@ -24,6 +24,9 @@ pub len-of-spec : {M : Type 1} → statement.statement M
 unfolding code.routine tablesOf
 len-of-spec 𝓤 H 𝓜 𝓖 𝓡 =
     stated 𝓤 H 𝓜 𝓖 𝓡 code.env clause key.name code.function (code.unfolded 𝓤 H 𝓜 𝓡)
-    (tells-of size (λ s. length s) 𝓤 H (𝓖 .A) (givenOf 𝓤 H 𝓜 𝓖) (tablesOf 𝓤 H 𝓜 (tables 𝓤 H 𝓜 𝓡 code.env)) new-def.name next-def.name
-    (heard 𝓤 H 𝓜 𝓖 𝓡 code.env from-gives new-def.name new-def.routine code.calls-slice-reader·SliceReader·from (new-thm.met 𝓤 H 𝓜 𝓖 𝓡))
-    (heard 𝓤 H 𝓜 𝓖 𝓡 code.env len-gives next-def.name next-def.routine code.calls-slice-reader·SliceReader·len (next-thm.met 𝓤 H 𝓜 𝓖 𝓡)))
+    (tells-of size (λ s. length s) 𝓤 H (𝓖 .A) (givenOf 𝓤 H 𝓜 𝓖) (tablesOf 𝓤 H 𝓜 (tables 𝓤 H 𝓜 𝓡 code.env)) new-def.name
+    next-def.name
+    (heard 𝓤 H 𝓜 𝓖 𝓡 code.env from-gives new-def.name new-def.routine code.calls-slice-reader·SliceReader·from
+    (new-thm.met 𝓤 H 𝓜 𝓖 𝓡))
+    (heard 𝓤 H 𝓜 𝓖 𝓡 code.env len-gives next-def.name next-def.routine code.calls-slice-reader·SliceReader·len
+    (next-thm.met 𝓤 H 𝓜 𝓖 𝓡)))

@@ -1,4 +1,5 @@
--- `slice_reader::string_at_start` meets its contract: what `reader::lend_bytes` ensures at the place 0 is the definition.
+-- `slice_reader::string_at_start` meets its contract: what `reader::lend_bytes` ensures at the place 0 is the
+-- definition.
 use borrow.Author.Needs.{needs}
 use Rattle.slice_reader.specs.Given.{stringGiven}
 use Rattle.slice_reader.proofs.string_at_start.Statement.{statement}

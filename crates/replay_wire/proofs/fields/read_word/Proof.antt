@@ -1,5 +1,5 @@
--- `replay_wire::fields::read_word` is safe and ends. The invariant: the place is not before the start; the measure is what is
--- left of the text.
+-- `replay_wire::fields::read_word` is safe and ends. The invariant: the place is not before the start; the measure is
+-- what is left of the text.
 use Prim.Native.Nat.{_-_, _≤_}
 use native.Mathlib.Omega.{arith}
 use lib.ListN.{length}

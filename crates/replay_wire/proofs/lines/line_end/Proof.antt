@@ -1,5 +1,5 @@
--- `replay_wire::lines::line_end` meets its contract. The invariant: the place is not before the start, and within the text if
--- that is.
+-- `replay_wire::lines::line_end` meets its contract. The invariant: the place is not before the start, and within the
+-- text if that is.
 use Prim.Native.Nat.{_-_, _<_, _≤_}
 use lib.ListN.{length}
 use borrow.Author.Needs.{needs}

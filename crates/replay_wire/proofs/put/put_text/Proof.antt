@@ -1,5 +1,5 @@
--- `replay_wire::put::put_text` is safe and ends. The invariant: the buffer keeps its length; the measure is what is left of
--- the text.
+-- `replay_wire::put::put_text` is safe and ends. The invariant: the buffer keeps its length; the measure is what is
+-- left of the text.
 use Prim.Native.Nat.{_-_, _≤_}
 use mathlib.Core.Path.{_≡_}
 use lib.ListN.{length}

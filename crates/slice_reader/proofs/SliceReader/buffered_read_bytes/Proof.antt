@@ -1,5 +1,5 @@
--- `SliceReader::buffered_read_bytes` meets its contract, by the law of the reads: `string_at_start` is called on the slice, and `left_by_string` on the slice and the answer.
--- Assumes nothing.
+-- `SliceReader::buffered_read_bytes` meets its contract, by the law of the reads: `string_at_start` is called on the
+-- slice, and `left_by_string` on the slice and the answer. Assumes nothing.
 use mathlib.Core.List.{[], _∷_}
 use contract.Monad.{fact-mono}
 use contract.Running.{givenOf, tables, tablesOf}
@@ -25,6 +25,9 @@ pub buffered-read-bytes-spec : {M : Type 1} → statement.statement M
 unfolding code.routine tablesOf
 buffered-read-bytes-spec 𝓤 H 𝓜 𝓖 𝓡 =
     stated 𝓤 H 𝓜 𝓖 𝓡 code.env clause key.name code.function (code.unfolded 𝓤 H 𝓜 𝓡)
-    (reads-one strings count string-given stringPlace 𝓤 H (𝓖 .A) (givenOf 𝓤 H 𝓜 𝓖) (tablesOf 𝓤 H 𝓜 (tables 𝓤 H 𝓜 𝓡 code.env)) start-def.name left-def.name
-    (heard 𝓤 H 𝓜 𝓖 𝓡 code.env string-at-start-gives start-def.name start-def.routine code.calls-slice-reader·string-at-start (start-thm.met 𝓤 H 𝓜 𝓖 𝓡))
-    (heard 𝓤 H 𝓜 𝓖 𝓡 code.env left-by-string-gives left-def.name left-def.routine code.calls-slice-reader·left-by-string (left-thm.met 𝓤 H 𝓜 𝓖 𝓡)))
+    (reads-one strings count string-given stringPlace 𝓤 H (𝓖 .A) (givenOf 𝓤 H 𝓜 𝓖)
+    (tablesOf 𝓤 H 𝓜 (tables 𝓤 H 𝓜 𝓡 code.env)) start-def.name left-def.name
+    (heard 𝓤 H 𝓜 𝓖 𝓡 code.env string-at-start-gives start-def.name start-def.routine
+    code.calls-slice-reader·string-at-start (start-thm.met 𝓤 H 𝓜 𝓖 𝓡))
+    (heard 𝓤 H 𝓜 𝓖 𝓡 code.env left-by-string-gives left-def.name left-def.routine code.calls-slice-reader·left-by-string
+    (left-thm.met 𝓤 H 𝓜 𝓖 𝓡)))

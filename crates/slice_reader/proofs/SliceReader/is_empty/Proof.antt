@@ -1,5 +1,5 @@
--- `SliceReader::is_empty` meets its contract: a walk of its MIR, by hand. The slice's length is read from the reader, and compared.
--- Assumes nothing.
+-- `SliceReader::is_empty` meets its contract: a walk of its MIR, by hand. The slice's length is read from the reader,
+-- and compared. Assumes nothing.
 use mathlib.Core.Path.{refl}
 use mathlib.Core.List.{[], _∷_}
 use lib.Dec.{eqb}
@@ -29,8 +29,13 @@ is-empty-spec 𝓤 H 𝓜 𝓖 𝓡 =
     let 𝓣 = tablesOf 𝓤 H 𝓜 (tables 𝓤 H 𝓜 𝓡 code.env) in
     stated 𝓤 H 𝓜 𝓖 𝓡 code.env clause key.name code.function (code.unfolded 𝓤 H 𝓜 𝓡)
     (asks-meet yes-or-no (λ s. eqb (length s) 0) 𝓤 H (𝓖 .A) W 𝓣 code.function (λ κ q d wt.
-    qed W (raw (Entry yes-or-no (λ s. eqb (length s) 0) 𝓤 H (𝓖 .A) W κ q d) ∷ []) ∵ enter ! (𝓣 .C) (𝓣 .Λ) code.function (T′.lowered d ∷ []) _ $
+    qed W (raw (Entry yes-or-no (λ s. eqb (length s) 0) 𝓤 H (𝓖 .A) W κ q d) ∷ []) ∵ enter ! (𝓣 .C) (𝓣 .Λ) code.function
+    (T′.lowered d ∷ []) _ $
     alloc1 ! (λ l₀. alloc1 ! (λ l₁. alloc1 ! (λ l₂. alloc0 ! $ params1 ! $ pass1 ! (init ! 2 refl wt) $ pass0 ! $
-    assigns ! (of-opd ! (load ! (from ! (fld ! refl (fld ! refl (stop !)))) (look-in ! 2 (sub ! 1 refl (sub ! 0 refl (whole !)))))) (from ! (stop !)) (init ! 0 refl (tt, wt .1 .0 .1 .0)) $
-    assigns ! (bin ! (load ! (from ! (stop !)) (look ! 0 refl)) (lit ! tt) tt) (from ! (stop !)) (init ! 4 refl (tt, tt)) $
-    returns ! (look ! 4 refl) $ forget ! 0 refl $ forget ! 2 refl $ forget ! 4 refl $ move ! (4 ∷ 5 ∷ []) $ free1 ! $ move ! (2 ∷ 3 ∷ []) $ free1 ! $ free1 ! $ free0 ! $ by ! (exits yes-or-no (λ s. eqb (length s) 0) 𝓤 H (𝓖 .A) W κ q d refl))))))
+    assigns ! (of-opd ! (load ! (from ! (fld ! refl (fld ! refl (stop !))))
+    (look-in ! 2 (sub ! 1 refl (sub ! 0 refl (whole !)))))) (from ! (stop !)) (init ! 0 refl (tt, wt .1 .0 .1 .0)) $
+    assigns ! (bin ! (load ! (from ! (stop !)) (look ! 0 refl)) (lit ! tt) tt) (from ! (stop !))
+    (init ! 4 refl (tt, tt)) $
+    returns ! (look ! 4 refl) $ forget ! 0 refl $ forget ! 2 refl $ forget ! 4 refl $ move ! (4 ∷ 5 ∷ []) $ free1 ! $
+    move ! (2 ∷ 3 ∷ []) $ free1 ! $ free1 ! $ free0 ! $ by !
+    (exits yes-or-no (λ s. eqb (length s) 0) 𝓤 H (𝓖 .A) W κ q d refl))))))

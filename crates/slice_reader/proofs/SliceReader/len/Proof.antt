@@ -28,7 +28,10 @@ len-spec 𝓤 H 𝓜 𝓖 𝓡 =
     let 𝓣 = tablesOf 𝓤 H 𝓜 (tables 𝓤 H 𝓜 𝓡 code.env) in
     stated 𝓤 H 𝓜 𝓖 𝓡 code.env clause key.name code.function (code.unfolded 𝓤 H 𝓜 𝓡)
     (asks-meet size (λ s. length s) 𝓤 H (𝓖 .A) W 𝓣 code.function (λ κ q d wt.
-    qed W (raw (Entry size (λ s. length s) 𝓤 H (𝓖 .A) W κ q d) ∷ []) ∵ enter ! (𝓣 .C) (𝓣 .Λ) code.function (T′.lowered d ∷ []) _ $
+    qed W (raw (Entry size (λ s. length s) 𝓤 H (𝓖 .A) W κ q d) ∷ []) ∵ enter ! (𝓣 .C) (𝓣 .Λ) code.function
+    (T′.lowered d ∷ []) _ $
     alloc1 ! (λ l₀. alloc1 ! (λ l₁. alloc0 ! $ params1 ! $ pass1 ! (init ! 0 refl wt) $ pass0 ! $
-    assigns ! (of-opd ! (load ! (from ! (fld ! refl (fld ! refl (stop !)))) (look-in ! 0 (sub ! 1 refl (sub ! 0 refl (whole !)))))) (from ! (stop !)) (init ! 2 refl (tt, wt .1 .0 .1 .0)) $
-    returns ! (look ! 2 refl) $ forget ! 0 refl $ forget ! 2 refl $ move ! (2 ∷ 3 ∷ []) $ free1 ! $ free1 ! $ free0 ! $ by ! (exits size (λ s. length s) 𝓤 H (𝓖 .A) W κ q d (refl, wt .1 .0 .1 .0 .fits))))))
+    assigns ! (of-opd ! (load ! (from ! (fld ! refl (fld ! refl (stop !))))
+    (look-in ! 0 (sub ! 1 refl (sub ! 0 refl (whole !)))))) (from ! (stop !)) (init ! 2 refl (tt, wt .1 .0 .1 .0)) $
+    returns ! (look ! 2 refl) $ forget ! 0 refl $ forget ! 2 refl $ move ! (2 ∷ 3 ∷ []) $ free1 ! $ free1 ! $ free0 ! $
+    by ! (exits size (λ s. length s) 𝓤 H (𝓖 .A) W κ q d (refl, wt .1 .0 .1 .0 .fits))))))

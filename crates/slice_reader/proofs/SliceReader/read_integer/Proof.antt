@@ -1,5 +1,5 @@
--- `SliceReader::read_integer` meets its contract, by the law of the reads: `integer_at_start` is called on the slice, and `left_by_integer` on the slice and the answer.
--- Assumes nothing.
+-- `SliceReader::read_integer` meets its contract, by the law of the reads: `integer_at_start` is called on the slice,
+-- and `left_by_integer` on the slice and the answer. Assumes nothing.
 use mathlib.Core.List.{[], _∷_}
 use contract.Monad.{fact-mono}
 use contract.Running.{givenOf, tables, tablesOf}
@@ -25,6 +25,9 @@ pub read-integer-spec : {M : Type 1} → statement.statement M
 unfolding code.routine tablesOf
 read-integer-spec 𝓤 H 𝓜 𝓖 𝓡 =
     stated 𝓤 H 𝓜 𝓖 𝓡 code.env clause key.name code.function (code.unfolded 𝓤 H 𝓜 𝓡)
-    (reads-two integers kind count integer-given integerPlace 𝓤 H (𝓖 .A) (givenOf 𝓤 H 𝓜 𝓖) (tablesOf 𝓤 H 𝓜 (tables 𝓤 H 𝓜 𝓡 code.env)) start-def.name left-def.name
-    (heard 𝓤 H 𝓜 𝓖 𝓡 code.env integer-at-start-gives start-def.name start-def.routine code.calls-slice-reader·integer-at-start (start-thm.met 𝓤 H 𝓜 𝓖 𝓡))
-    (heard 𝓤 H 𝓜 𝓖 𝓡 code.env left-by-integer-gives left-def.name left-def.routine code.calls-slice-reader·left-by-integer (left-thm.met 𝓤 H 𝓜 𝓖 𝓡)))
+    (reads-two integers kind count integer-given integerPlace 𝓤 H (𝓖 .A) (givenOf 𝓤 H 𝓜 𝓖)
+    (tablesOf 𝓤 H 𝓜 (tables 𝓤 H 𝓜 𝓡 code.env)) start-def.name left-def.name
+    (heard 𝓤 H 𝓜 𝓖 𝓡 code.env integer-at-start-gives start-def.name start-def.routine
+    code.calls-slice-reader·integer-at-start (start-thm.met 𝓤 H 𝓜 𝓖 𝓡))
+    (heard 𝓤 H 𝓜 𝓖 𝓡 code.env left-by-integer-gives left-def.name left-def.routine
+    code.calls-slice-reader·left-by-integer (left-thm.met 𝓤 H 𝓜 𝓖 𝓡)))
