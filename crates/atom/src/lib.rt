@@ -190,8 +190,10 @@ fn read_bytes(
     scratch: &mut [u8],
     way: Way,
 ) -> AtomAnswer
-    ensures { λ r. ⌜ r ≡ judged K.Bytes arg next budget (bytesTaken way (now (source .entry)) arg next (now (scratch .entry))) ⌝ }
-    ensures { λ r. ⌜ now (scratch .exit) ≡ scratchAfter way (now (source .entry)) K.Bytes arg next budget (now (scratch .entry)) ⌝ }
+    ensures { λ r. ⌜ r ≡
+        judged K.Bytes arg next budget (bytesTaken way (now (source .entry)) arg next (now (scratch .entry))) ⌝ }
+    ensures { λ r. ⌜ now (scratch .exit) ≡
+        scratchAfter way (now (source .entry)) K.Bytes arg next budget (now (scratch .entry)) ⌝ }
 {
     let BudgetAnswer::Left(rest) = update_budget(budget, arg) else {
         return AtomAnswer::Refused(next, budget, Refusal::TooManyBytesRead);
@@ -218,7 +220,8 @@ fn read_body(
 ) -> AtomAnswer
     requires { ⌜ next .0 ≤ length (now source) ⌝ }
     ensures { λ r. ⌜ r ≡ atomAfter way (now (source .entry)) kind arg next budget (now (scratch .entry)) ⌝ }
-    ensures { λ r. ⌜ now (scratch .exit) ≡ scratchAfter way (now (source .entry)) kind arg next budget (now (scratch .entry)) ⌝ }
+    ensures { λ r. ⌜ now (scratch .exit) ≡
+        scratchAfter way (now (source .entry)) kind arg next budget (now (scratch .entry)) ⌝ }
 {
     match kind {
         Kind::Sequence => return AtomAnswer::Read(next, budget, header_atom(kind, arg)),
@@ -240,7 +243,8 @@ pub fn read_atom_by(
     way: Way,
 ) -> AtomAnswer
     ensures { λ r. ⌜ r ≡ atomRead way (now (source .entry)) (place .0) budget (now (scratch .entry)) ⌝ }
-    ensures { λ r. ⌜ now (scratch .exit) ≡ atomScratch way (now (source .entry)) (place .0) budget (now (scratch .entry)) ⌝ }
+    ensures { λ r. ⌜ now (scratch .exit) ≡
+        atomScratch way (now (source .entry)) (place .0) budget (now (scratch .entry)) ⌝ }
 {
     match header::read_atom_header(source, place, way) {
         HeaderAnswer::Read(next, kind, arg) => {

@@ -1,5 +1,5 @@
-// Zero, equality, checked casts and `From` of an integer, after `impl Integer` and `impl From` of format.rs. Document 01,
-// "Casts": each cast goes by variant, and refuses with 8 what its type does not hold.
+// Zero, equality, checked casts and `From` of an integer, after `impl Integer` and `impl From` of format.rs. Document
+// 01, "Casts": each cast goes by variant, and refuses with 8 what its type does not hold.
 ghost use mathlib.Core.Path.{_≡_};
 ghost use mathlib.Core.Bool.{_&&_};
 ghost use lib.Dec.{eqb};

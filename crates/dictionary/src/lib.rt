@@ -1,5 +1,5 @@
-// A dictionary file: the step that builds no value, the run over a file's atoms, and the tally. Document 01, "Two ways of
-// reading" and "Tally".
+// A dictionary file: the step that builds no value, the run over a file's atoms, and the tally. Document 01, "Two ways
+// of reading" and "Tally".
 ghost use mathlib.Core.Path.{_≡_};
 ghost use mathlib.Core.Bool.{true, false};
 ghost use Prim.Native.Nat.{_≤_, _<_, _+_, _-_};
@@ -26,8 +26,8 @@ use types::Tallied;
 use types::TallyAnswer;
 use types::Way;
 
-// What the run and the tally know of an atom by its first byte alone: what `skip_atom` answers of one that it goes past, or
-// nothing.
+// What the run and the tally know of an atom by its first byte alone: what `skip_atom` answers of one that it goes
+// past, or nothing.
 enum Short {
     Past(Place, Budget, Place, bool),
     Other,
@@ -43,7 +43,9 @@ fn skip_number(
     left: Budget,
 ) -> Skipped
     requires { ⌜ at .0 ≤ length (now source) ⌝ }
-    ensures { λ r. ⌜ r ≡ bodyPast (length (now (source .entry))) (at .0) (left .0) false count (numberCharge count) allowed (unsupported kind count) ⌝ }
+    ensures { λ r. ⌜ r ≡
+        bodyPast (length (now (source .entry))) (at .0) (left .0) false count (numberCharge count) allowed
+        (unsupported kind count) ⌝ }
 {
     let BudgetAnswer::Left(rest) = atom::update_budget(left, atom::in_memory_int_size(count)) else {
         return Skipped::Refused(at, left, Refusal::TooManyBytesRead);
@@ -138,8 +140,8 @@ fn short_body(
     return Short::Past(Place(from + body.0 as usize), rest, Place(from), string);
 }
 
-// An atom that the run and the tally pass without asking `skip_atom`: a UInt of one byte, a string or a sequence whose header
-// is one byte, as nearly all of a dictionary's are. Each has the body and the charge of its kind.
+// An atom that the run and the tally pass without asking `skip_atom`: a UInt of one byte, a string or a sequence whose
+// header is one byte, as nearly all of a dictionary's are. Each has the body and the charge of its kind.
 fn short_atom(source: &[u8], at: Place, left: Budget) -> Short
     requires { ⌜ at .0 < length (now source) ⌝ }
     ensures { λ r. ⌜ r ≡ shortStep (now (source .entry)) (at .0) left ⌝ }
@@ -250,7 +252,9 @@ pub fn count_letters(string: &[u8]) -> u64
 // The letters of an atom's body, none if it is no string.
 fn letters_of(source: &[u8], from: Place, to: Place, string: bool) -> u64
     requires { ⌜ (from .0 ≤ to .0) × (to .0 ≤ length (now source)) ⌝ }
-    ensures { λ r. ⌜ (r ≡ pick string (letters (take (to .0 - from .0) (drop (from .0) (now (source .entry))))) 0) × (r + from .0 ≤ to .0) ⌝ }
+    ensures { λ r. ⌜
+        (r ≡ pick string (letters (take (to .0 - from .0) (drop (from .0) (now (source .entry))))) 0) ×
+        (r + from .0 ≤ to .0) ⌝ }
 {
     if string {
         let start = from.0;

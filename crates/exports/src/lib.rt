@@ -52,10 +52,10 @@ fn granted(words: usize, room: usize) -> usize
     room
 }
 
-// Reads an atom under a way: the one place that calls the reader. The parameters stand as the exports have them, so that
-// source, place, budget and words stay in the registers that they came in: all that is read waits for the place, and over
-// the stack it would come later. The scratch, which few atoms need, goes over the stack. The source is lent whole, as a
-// part of itself, so that its address and length are read at once.
+// Reads an atom under a way: the one place that calls the reader. The parameters stand as the exports have them, so
+// that source, place, budget and words stay in the registers that they came in: all that is read waits for the place,
+// and over the stack it would come later. The scratch, which few atoms need, goes over the stack. The source is lent
+// whole, as a part of itself, so that its address and length are read at once.
 fn read_by(
     source: &[u8],
     place: usize,
@@ -64,9 +64,14 @@ fn read_by(
     scratch: &mut [u8],
     way: Way,
 ) -> u64
-    ensures { λ r. ⌜ r ≡ numberOf (saidAtom (atomRead way (now (source .entry)) place (record { 0 = budget }) (now (scratch .entry)))) (now (words .entry)) ⌝ }
-    ensures { λ r. ⌜ now (words .exit) ≡ wordsOf (saidAtom (atomRead way (now (source .entry)) place (record { 0 = budget }) (now (scratch .entry)))) (now (words .entry)) ⌝ }
-    ensures { λ r. ⌜ now (scratch .exit) ≡ atomScratch way (now (source .entry)) place (record { 0 = budget }) (now (scratch .entry)) ⌝ }
+    ensures { λ r. ⌜ r ≡
+        numberOf (saidAtom (atomRead way (now (source .entry)) place (record { 0 = budget }) (now (scratch .entry))))
+        (now (words .entry)) ⌝ }
+    ensures { λ r. ⌜ now (words .exit) ≡
+        wordsOf (saidAtom (atomRead way (now (source .entry)) place (record { 0 = budget }) (now (scratch .entry))))
+        (now (words .entry)) ⌝ }
+    ensures { λ r. ⌜ now (scratch .exit) ≡
+        atomScratch way (now (source .entry)) place (record { 0 = budget }) (now (scratch .entry)) ⌝ }
 {
     let answer = atom::read_atom_by(&source[0..], Place(place), Budget(budget), scratch, way);
     words::say_atom(words, answer)
@@ -75,8 +80,12 @@ fn read_by(
 // Reads an atom by the way that names none, which is filled; a string is lent.
 #[no_mangle]
 pub extern "C" fn pot_read_atom(source: &[u8], place: usize, budget: u64, words: &mut [u64]) -> u64
-    ensures { λ r. ⌜ r ≡ numberOf (saidAtom (atomRead unnamedWay (now (source .entry)) place (record { 0 = budget }) [])) (now (words .entry)) ⌝ }
-    ensures { λ r. ⌜ now (words .exit) ≡ wordsOf (saidAtom (atomRead unnamedWay (now (source .entry)) place (record { 0 = budget }) [])) (now (words .entry)) ⌝ }
+    ensures { λ r. ⌜ r ≡
+        numberOf (saidAtom (atomRead unnamedWay (now (source .entry)) place (record { 0 = budget }) []))
+        (now (words .entry)) ⌝ }
+    ensures { λ r. ⌜ now (words .exit) ≡
+        wordsOf (saidAtom (atomRead unnamedWay (now (source .entry)) place (record { 0 = budget }) []))
+        (now (words .entry)) ⌝ }
 {
     let mut scratch = [0u8; 0];
     read_by(source, place, budget, words, &mut scratch, Way::unnamed())
@@ -90,8 +99,12 @@ pub extern "C" fn pot_read_atom_exact(
     budget: u64,
     words: &mut [u64],
 ) -> u64
-    ensures { λ r. ⌜ r ≡ numberOf (saidAtom (atomRead ExactLent (now (source .entry)) place (record { 0 = budget }) [])) (now (words .entry)) ⌝ }
-    ensures { λ r. ⌜ now (words .exit) ≡ wordsOf (saidAtom (atomRead ExactLent (now (source .entry)) place (record { 0 = budget }) [])) (now (words .entry)) ⌝ }
+    ensures { λ r. ⌜ r ≡
+        numberOf (saidAtom (atomRead ExactLent (now (source .entry)) place (record { 0 = budget }) []))
+        (now (words .entry)) ⌝ }
+    ensures { λ r. ⌜ now (words .exit) ≡
+        wordsOf (saidAtom (atomRead ExactLent (now (source .entry)) place (record { 0 = budget }) []))
+        (now (words .entry)) ⌝ }
 {
     let mut scratch = [0u8; 0];
     read_by(source, place, budget, words, &mut scratch, Way::ExactLent)
@@ -106,9 +119,15 @@ pub extern "C" fn pot_read_atom_copied(
     scratch: &mut [u8],
     words: &mut [u64],
 ) -> u64
-    ensures { λ r. ⌜ r ≡ numberOf (saidAtom (atomRead ExactCopied (now (source .entry)) place (record { 0 = budget }) (now (scratch .entry)))) (now (words .entry)) ⌝ }
-    ensures { λ r. ⌜ now (words .exit) ≡ wordsOf (saidAtom (atomRead ExactCopied (now (source .entry)) place (record { 0 = budget }) (now (scratch .entry)))) (now (words .entry)) ⌝ }
-    ensures { λ r. ⌜ now (scratch .exit) ≡ unlessShort (now (words .entry)) (now (scratch .entry)) (atomScratch ExactCopied (now (source .entry)) place (record { 0 = budget }) (now (scratch .entry))) ⌝ }
+    ensures { λ r. ⌜ r ≡
+        numberOf (saidAtom (atomRead ExactCopied (now (source .entry)) place (record { 0 = budget })
+        (now (scratch .entry)))) (now (words .entry)) ⌝ }
+    ensures { λ r. ⌜ now (words .exit) ≡
+        wordsOf (saidAtom (atomRead ExactCopied (now (source .entry)) place (record { 0 = budget })
+        (now (scratch .entry)))) (now (words .entry)) ⌝ }
+    ensures { λ r. ⌜ now (scratch .exit) ≡
+        unlessShort (now (words .entry)) (now (scratch .entry))
+        (atomScratch ExactCopied (now (source .entry)) place (record { 0 = budget }) (now (scratch .entry))) ⌝ }
 {
     let room = granted(words.len(), scratch.len());
     read_by(
@@ -124,8 +143,10 @@ pub extern "C" fn pot_read_atom_copied(
 // Reads an atom exactly and builds no value.
 #[no_mangle]
 pub extern "C" fn pot_skip_atom(source: &[u8], place: usize, budget: u64, words: &mut [u64]) -> u64
-    ensures { λ r. ⌜ r ≡ numberOf (saidSkipped (skipped (now (source .entry)) place (record { 0 = budget }))) (now (words .entry)) ⌝ }
-    ensures { λ r. ⌜ now (words .exit) ≡ wordsOf (saidSkipped (skipped (now (source .entry)) place (record { 0 = budget }))) (now (words .entry)) ⌝ }
+    ensures { λ r. ⌜ r ≡
+        numberOf (saidSkipped (skipped (now (source .entry)) place (record { 0 = budget }))) (now (words .entry)) ⌝ }
+    ensures { λ r. ⌜ now (words .exit) ≡
+        wordsOf (saidSkipped (skipped (now (source .entry)) place (record { 0 = budget }))) (now (words .entry)) ⌝ }
 {
     words::say_skipped(
         words,
@@ -136,8 +157,10 @@ pub extern "C" fn pot_skip_atom(source: &[u8], place: usize, budget: u64, words:
 // Reads the atoms of a whole file exactly.
 #[no_mangle]
 pub extern "C" fn pot_run(source: &[u8], budget: u64, words: &mut [u64]) -> u64
-    ensures { λ r. ⌜ r ≡ numberOf (saidRan (runAll (now (source .entry)) (record { 0 = budget }))) (now (words .entry)) ⌝ }
-    ensures { λ r. ⌜ now (words .exit) ≡ wordsOf (saidRan (runAll (now (source .entry)) (record { 0 = budget }))) (now (words .entry)) ⌝ }
+    ensures { λ r. ⌜ r ≡
+        numberOf (saidRan (runAll (now (source .entry)) (record { 0 = budget }))) (now (words .entry)) ⌝ }
+    ensures { λ r. ⌜ now (words .exit) ≡
+        wordsOf (saidRan (runAll (now (source .entry)) (record { 0 = budget }))) (now (words .entry)) ⌝ }
 {
     words::say_ran(words, dictionary::run(source, Budget(budget)))
 }
@@ -154,7 +177,8 @@ pub extern "C" fn pot_tally(source: &[u8], words: &mut [u64]) -> u64
 // Reads a signature under a way: the one place that calls the reader.
 fn read_header_by(source: &[u8], place: usize, way: Way, words: &mut [u64]) -> u64
     ensures { λ r. ⌜ r ≡ numberOf (saidVersion (versionRead way (now (source .entry)) place)) (now (words .entry)) ⌝ }
-    ensures { λ r. ⌜ now (words .exit) ≡ wordsOf (saidVersion (versionRead way (now (source .entry)) place)) (now (words .entry)) ⌝ }
+    ensures { λ r. ⌜ now (words .exit) ≡
+        wordsOf (saidVersion (versionRead way (now (source .entry)) place)) (now (words .entry)) ⌝ }
 {
     words::say_version(words, header::read_header(source, Place(place), way))
 }
@@ -162,8 +186,10 @@ fn read_header_by(source: &[u8], place: usize, way: Way, words: &mut [u64]) -> u
 // Reads the signature by the way that names none, which is filled.
 #[no_mangle]
 pub extern "C" fn pot_read_header(source: &[u8], place: usize, words: &mut [u64]) -> u64
-    ensures { λ r. ⌜ r ≡ numberOf (saidVersion (versionRead unnamedWay (now (source .entry)) place)) (now (words .entry)) ⌝ }
-    ensures { λ r. ⌜ now (words .exit) ≡ wordsOf (saidVersion (versionRead unnamedWay (now (source .entry)) place)) (now (words .entry)) ⌝ }
+    ensures { λ r. ⌜ r ≡
+        numberOf (saidVersion (versionRead unnamedWay (now (source .entry)) place)) (now (words .entry)) ⌝ }
+    ensures { λ r. ⌜ now (words .exit) ≡
+        wordsOf (saidVersion (versionRead unnamedWay (now (source .entry)) place)) (now (words .entry)) ⌝ }
 {
     read_header_by(source, place, Way::unnamed(), words)
 }
@@ -171,8 +197,10 @@ pub extern "C" fn pot_read_header(source: &[u8], place: usize, words: &mut [u64]
 // Reads the signature exactly.
 #[no_mangle]
 pub extern "C" fn pot_read_header_exact(source: &[u8], place: usize, words: &mut [u64]) -> u64
-    ensures { λ r. ⌜ r ≡ numberOf (saidVersion (versionRead ExactLent (now (source .entry)) place)) (now (words .entry)) ⌝ }
-    ensures { λ r. ⌜ now (words .exit) ≡ wordsOf (saidVersion (versionRead ExactLent (now (source .entry)) place)) (now (words .entry)) ⌝ }
+    ensures { λ r. ⌜ r ≡
+        numberOf (saidVersion (versionRead ExactLent (now (source .entry)) place)) (now (words .entry)) ⌝ }
+    ensures { λ r. ⌜ now (words .exit) ≡
+        wordsOf (saidVersion (versionRead ExactLent (now (source .entry)) place)) (now (words .entry)) ⌝ }
 {
     read_header_by(source, place, Way::ExactLent, words)
 }
@@ -180,9 +208,13 @@ pub extern "C" fn pot_read_header_exact(source: &[u8], place: usize, words: &mut
 // Writes the signature with a version.
 #[no_mangle]
 pub extern "C" fn pot_write_header(out: &mut [u8], version: u8, words: &mut [u64]) -> u64
-    ensures { λ r. ⌜ r ≡ numberOf (saidWritten (writtenAnswer (signatureBytes version) (now (out .entry)))) (now (words .entry)) ⌝ }
-    ensures { λ r. ⌜ now (words .exit) ≡ wordsOf (saidWritten (writtenAnswer (signatureBytes version) (now (out .entry)))) (now (words .entry)) ⌝ }
-    ensures { λ r. ⌜ now (out .exit) ≡ unlessShort (now (words .entry)) (now (out .entry)) (writtenContent (signatureBytes version) (now (out .entry))) ⌝ }
+    ensures { λ r. ⌜ r ≡
+        numberOf (saidWritten (writtenAnswer (signatureBytes version) (now (out .entry)))) (now (words .entry)) ⌝ }
+    ensures { λ r. ⌜ now (words .exit) ≡
+        wordsOf (saidWritten (writtenAnswer (signatureBytes version) (now (out .entry)))) (now (words .entry)) ⌝ }
+    ensures { λ r. ⌜ now (out .exit) ≡
+        unlessShort (now (words .entry)) (now (out .entry))
+        (writtenContent (signatureBytes version) (now (out .entry))) ⌝ }
 {
     let room = granted(words.len(), out.len());
     let answer = header::write_header(&mut out[0..room], version);
@@ -192,9 +224,12 @@ pub extern "C" fn pot_write_header(out: &mut [u8], version: u8, words: &mut [u64
 // Writes None.
 #[no_mangle]
 pub extern "C" fn pot_write_none(out: &mut [u8], words: &mut [u64]) -> u64
-    ensures { λ r. ⌜ r ≡ numberOf (saidWritten (writtenAnswer (specialBytes None) (now (out .entry)))) (now (words .entry)) ⌝ }
-    ensures { λ r. ⌜ now (words .exit) ≡ wordsOf (saidWritten (writtenAnswer (specialBytes None) (now (out .entry)))) (now (words .entry)) ⌝ }
-    ensures { λ r. ⌜ now (out .exit) ≡ unlessShort (now (words .entry)) (now (out .entry)) (writtenContent (specialBytes None) (now (out .entry))) ⌝ }
+    ensures { λ r. ⌜ r ≡
+        numberOf (saidWritten (writtenAnswer (specialBytes None) (now (out .entry)))) (now (words .entry)) ⌝ }
+    ensures { λ r. ⌜ now (words .exit) ≡
+        wordsOf (saidWritten (writtenAnswer (specialBytes None) (now (out .entry)))) (now (words .entry)) ⌝ }
+    ensures { λ r. ⌜ now (out .exit) ≡
+        unlessShort (now (words .entry)) (now (out .entry)) (writtenContent (specialBytes None) (now (out .entry))) ⌝ }
 {
     let room = granted(words.len(), out.len());
     let answer = writers::write_none(&mut out[0..room]);
@@ -204,9 +239,12 @@ pub extern "C" fn pot_write_none(out: &mut [u8], words: &mut [u64]) -> u64
 // Writes the unit.
 #[no_mangle]
 pub extern "C" fn pot_write_unit(out: &mut [u8], words: &mut [u64]) -> u64
-    ensures { λ r. ⌜ r ≡ numberOf (saidWritten (writtenAnswer (specialBytes Unit) (now (out .entry)))) (now (words .entry)) ⌝ }
-    ensures { λ r. ⌜ now (words .exit) ≡ wordsOf (saidWritten (writtenAnswer (specialBytes Unit) (now (out .entry)))) (now (words .entry)) ⌝ }
-    ensures { λ r. ⌜ now (out .exit) ≡ unlessShort (now (words .entry)) (now (out .entry)) (writtenContent (specialBytes Unit) (now (out .entry))) ⌝ }
+    ensures { λ r. ⌜ r ≡
+        numberOf (saidWritten (writtenAnswer (specialBytes Unit) (now (out .entry)))) (now (words .entry)) ⌝ }
+    ensures { λ r. ⌜ now (words .exit) ≡
+        wordsOf (saidWritten (writtenAnswer (specialBytes Unit) (now (out .entry)))) (now (words .entry)) ⌝ }
+    ensures { λ r. ⌜ now (out .exit) ≡
+        unlessShort (now (words .entry)) (now (out .entry)) (writtenContent (specialBytes Unit) (now (out .entry))) ⌝ }
 {
     let room = granted(words.len(), out.len());
     let answer = writers::write_unit(&mut out[0..room]);
@@ -216,9 +254,12 @@ pub extern "C" fn pot_write_unit(out: &mut [u8], words: &mut [u64]) -> u64
 // Writes the mark of a named value.
 #[no_mangle]
 pub extern "C" fn pot_write_named(out: &mut [u8], words: &mut [u64]) -> u64
-    ensures { λ r. ⌜ r ≡ numberOf (saidWritten (writtenAnswer (specialBytes Named) (now (out .entry)))) (now (words .entry)) ⌝ }
-    ensures { λ r. ⌜ now (words .exit) ≡ wordsOf (saidWritten (writtenAnswer (specialBytes Named) (now (out .entry)))) (now (words .entry)) ⌝ }
-    ensures { λ r. ⌜ now (out .exit) ≡ unlessShort (now (words .entry)) (now (out .entry)) (writtenContent (specialBytes Named) (now (out .entry))) ⌝ }
+    ensures { λ r. ⌜ r ≡
+        numberOf (saidWritten (writtenAnswer (specialBytes Named) (now (out .entry)))) (now (words .entry)) ⌝ }
+    ensures { λ r. ⌜ now (words .exit) ≡
+        wordsOf (saidWritten (writtenAnswer (specialBytes Named) (now (out .entry)))) (now (words .entry)) ⌝ }
+    ensures { λ r. ⌜ now (out .exit) ≡
+        unlessShort (now (words .entry)) (now (out .entry)) (writtenContent (specialBytes Named) (now (out .entry))) ⌝ }
 {
     let room = granted(words.len(), out.len());
     let answer = writers::write_named(&mut out[0..room]);
@@ -228,9 +269,12 @@ pub extern "C" fn pot_write_named(out: &mut [u8], words: &mut [u64]) -> u64
 // Writes an Int of at most 8 bits.
 #[no_mangle]
 pub extern "C" fn pot_write_i8(out: &mut [u8], value: i8, words: &mut [u64]) -> u64
-    ensures { λ r. ⌜ r ≡ numberOf (saidWritten (writtenAnswer (signedBytes value) (now (out .entry)))) (now (words .entry)) ⌝ }
-    ensures { λ r. ⌜ now (words .exit) ≡ wordsOf (saidWritten (writtenAnswer (signedBytes value) (now (out .entry)))) (now (words .entry)) ⌝ }
-    ensures { λ r. ⌜ now (out .exit) ≡ unlessShort (now (words .entry)) (now (out .entry)) (writtenContent (signedBytes value) (now (out .entry))) ⌝ }
+    ensures { λ r. ⌜ r ≡
+        numberOf (saidWritten (writtenAnswer (signedBytes value) (now (out .entry)))) (now (words .entry)) ⌝ }
+    ensures { λ r. ⌜ now (words .exit) ≡
+        wordsOf (saidWritten (writtenAnswer (signedBytes value) (now (out .entry)))) (now (words .entry)) ⌝ }
+    ensures { λ r. ⌜ now (out .exit) ≡
+        unlessShort (now (words .entry)) (now (out .entry)) (writtenContent (signedBytes value) (now (out .entry))) ⌝ }
 {
     let room = granted(words.len(), out.len());
     let answer = writers::write_i8(&mut out[0..room], value);
@@ -240,9 +284,13 @@ pub extern "C" fn pot_write_i8(out: &mut [u8], value: i8, words: &mut [u64]) -> 
 // Writes a UInt of at most 8 bits.
 #[no_mangle]
 pub extern "C" fn pot_write_u8(out: &mut [u8], value: u8, words: &mut [u64]) -> u64
-    ensures { λ r. ⌜ r ≡ numberOf (saidWritten (writtenAnswer (unsignedBytes value) (now (out .entry)))) (now (words .entry)) ⌝ }
-    ensures { λ r. ⌜ now (words .exit) ≡ wordsOf (saidWritten (writtenAnswer (unsignedBytes value) (now (out .entry)))) (now (words .entry)) ⌝ }
-    ensures { λ r. ⌜ now (out .exit) ≡ unlessShort (now (words .entry)) (now (out .entry)) (writtenContent (unsignedBytes value) (now (out .entry))) ⌝ }
+    ensures { λ r. ⌜ r ≡
+        numberOf (saidWritten (writtenAnswer (unsignedBytes value) (now (out .entry)))) (now (words .entry)) ⌝ }
+    ensures { λ r. ⌜ now (words .exit) ≡
+        wordsOf (saidWritten (writtenAnswer (unsignedBytes value) (now (out .entry)))) (now (words .entry)) ⌝ }
+    ensures { λ r. ⌜ now (out .exit) ≡
+        unlessShort (now (words .entry)) (now (out .entry))
+        (writtenContent (unsignedBytes value) (now (out .entry))) ⌝ }
 {
     let room = granted(words.len(), out.len());
     let answer = writers::write_u8(&mut out[0..room], value);
@@ -252,9 +300,12 @@ pub extern "C" fn pot_write_u8(out: &mut [u8], value: u8, words: &mut [u64]) -> 
 // Writes an Int of at most 16 bits.
 #[no_mangle]
 pub extern "C" fn pot_write_i16(out: &mut [u8], value: i16, words: &mut [u64]) -> u64
-    ensures { λ r. ⌜ r ≡ numberOf (saidWritten (writtenAnswer (signedBytes value) (now (out .entry)))) (now (words .entry)) ⌝ }
-    ensures { λ r. ⌜ now (words .exit) ≡ wordsOf (saidWritten (writtenAnswer (signedBytes value) (now (out .entry)))) (now (words .entry)) ⌝ }
-    ensures { λ r. ⌜ now (out .exit) ≡ unlessShort (now (words .entry)) (now (out .entry)) (writtenContent (signedBytes value) (now (out .entry))) ⌝ }
+    ensures { λ r. ⌜ r ≡
+        numberOf (saidWritten (writtenAnswer (signedBytes value) (now (out .entry)))) (now (words .entry)) ⌝ }
+    ensures { λ r. ⌜ now (words .exit) ≡
+        wordsOf (saidWritten (writtenAnswer (signedBytes value) (now (out .entry)))) (now (words .entry)) ⌝ }
+    ensures { λ r. ⌜ now (out .exit) ≡
+        unlessShort (now (words .entry)) (now (out .entry)) (writtenContent (signedBytes value) (now (out .entry))) ⌝ }
 {
     let room = granted(words.len(), out.len());
     let answer = writers::write_i16(&mut out[0..room], value);
@@ -264,9 +315,13 @@ pub extern "C" fn pot_write_i16(out: &mut [u8], value: i16, words: &mut [u64]) -
 // Writes a UInt of at most 16 bits.
 #[no_mangle]
 pub extern "C" fn pot_write_u16(out: &mut [u8], value: u16, words: &mut [u64]) -> u64
-    ensures { λ r. ⌜ r ≡ numberOf (saidWritten (writtenAnswer (unsignedBytes value) (now (out .entry)))) (now (words .entry)) ⌝ }
-    ensures { λ r. ⌜ now (words .exit) ≡ wordsOf (saidWritten (writtenAnswer (unsignedBytes value) (now (out .entry)))) (now (words .entry)) ⌝ }
-    ensures { λ r. ⌜ now (out .exit) ≡ unlessShort (now (words .entry)) (now (out .entry)) (writtenContent (unsignedBytes value) (now (out .entry))) ⌝ }
+    ensures { λ r. ⌜ r ≡
+        numberOf (saidWritten (writtenAnswer (unsignedBytes value) (now (out .entry)))) (now (words .entry)) ⌝ }
+    ensures { λ r. ⌜ now (words .exit) ≡
+        wordsOf (saidWritten (writtenAnswer (unsignedBytes value) (now (out .entry)))) (now (words .entry)) ⌝ }
+    ensures { λ r. ⌜ now (out .exit) ≡
+        unlessShort (now (words .entry)) (now (out .entry))
+        (writtenContent (unsignedBytes value) (now (out .entry))) ⌝ }
 {
     let room = granted(words.len(), out.len());
     let answer = writers::write_u16(&mut out[0..room], value);
@@ -276,9 +331,15 @@ pub extern "C" fn pot_write_u16(out: &mut [u8], value: u16, words: &mut [u64]) -
 // Writes an Int of at most 24 bits; refusal 8 of a value that so many bits do not hold.
 #[no_mangle]
 pub extern "C" fn pot_write_i24(out: &mut [u8], value: i32, words: &mut [u64]) -> u64
-    ensures { λ r. ⌜ r ≡ numberOf (saidWritten (heldAnswer (holdsS 3 value) (signedBytes value) (now (out .entry)))) (now (words .entry)) ⌝ }
-    ensures { λ r. ⌜ now (words .exit) ≡ wordsOf (saidWritten (heldAnswer (holdsS 3 value) (signedBytes value) (now (out .entry)))) (now (words .entry)) ⌝ }
-    ensures { λ r. ⌜ now (out .exit) ≡ unlessShort (now (words .entry)) (now (out .entry)) (heldContent (holdsS 3 value) (signedBytes value) (now (out .entry))) ⌝ }
+    ensures { λ r. ⌜ r ≡
+        numberOf (saidWritten (heldAnswer (holdsS 3 value) (signedBytes value) (now (out .entry))))
+        (now (words .entry)) ⌝ }
+    ensures { λ r. ⌜ now (words .exit) ≡
+        wordsOf (saidWritten (heldAnswer (holdsS 3 value) (signedBytes value) (now (out .entry))))
+        (now (words .entry)) ⌝ }
+    ensures { λ r. ⌜ now (out .exit) ≡
+        unlessShort (now (words .entry)) (now (out .entry))
+        (heldContent (holdsS 3 value) (signedBytes value) (now (out .entry))) ⌝ }
 {
     let room = granted(words.len(), out.len());
     let answer = writers::write_i24(&mut out[0..room], value);
@@ -288,9 +349,15 @@ pub extern "C" fn pot_write_i24(out: &mut [u8], value: i32, words: &mut [u64]) -
 // Writes a UInt of at most 24 bits; refusal 8 of a value that so many bits do not hold.
 #[no_mangle]
 pub extern "C" fn pot_write_u24(out: &mut [u8], value: u32, words: &mut [u64]) -> u64
-    ensures { λ r. ⌜ r ≡ numberOf (saidWritten (heldAnswer (holdsU 3 value) (unsignedBytes value) (now (out .entry)))) (now (words .entry)) ⌝ }
-    ensures { λ r. ⌜ now (words .exit) ≡ wordsOf (saidWritten (heldAnswer (holdsU 3 value) (unsignedBytes value) (now (out .entry)))) (now (words .entry)) ⌝ }
-    ensures { λ r. ⌜ now (out .exit) ≡ unlessShort (now (words .entry)) (now (out .entry)) (heldContent (holdsU 3 value) (unsignedBytes value) (now (out .entry))) ⌝ }
+    ensures { λ r. ⌜ r ≡
+        numberOf (saidWritten (heldAnswer (holdsU 3 value) (unsignedBytes value) (now (out .entry))))
+        (now (words .entry)) ⌝ }
+    ensures { λ r. ⌜ now (words .exit) ≡
+        wordsOf (saidWritten (heldAnswer (holdsU 3 value) (unsignedBytes value) (now (out .entry))))
+        (now (words .entry)) ⌝ }
+    ensures { λ r. ⌜ now (out .exit) ≡
+        unlessShort (now (words .entry)) (now (out .entry))
+        (heldContent (holdsU 3 value) (unsignedBytes value) (now (out .entry))) ⌝ }
 {
     let room = granted(words.len(), out.len());
     let answer = writers::write_u24(&mut out[0..room], value);
@@ -300,9 +367,12 @@ pub extern "C" fn pot_write_u24(out: &mut [u8], value: u32, words: &mut [u64]) -
 // Writes an Int of at most 32 bits.
 #[no_mangle]
 pub extern "C" fn pot_write_i32(out: &mut [u8], value: i32, words: &mut [u64]) -> u64
-    ensures { λ r. ⌜ r ≡ numberOf (saidWritten (writtenAnswer (signedBytes value) (now (out .entry)))) (now (words .entry)) ⌝ }
-    ensures { λ r. ⌜ now (words .exit) ≡ wordsOf (saidWritten (writtenAnswer (signedBytes value) (now (out .entry)))) (now (words .entry)) ⌝ }
-    ensures { λ r. ⌜ now (out .exit) ≡ unlessShort (now (words .entry)) (now (out .entry)) (writtenContent (signedBytes value) (now (out .entry))) ⌝ }
+    ensures { λ r. ⌜ r ≡
+        numberOf (saidWritten (writtenAnswer (signedBytes value) (now (out .entry)))) (now (words .entry)) ⌝ }
+    ensures { λ r. ⌜ now (words .exit) ≡
+        wordsOf (saidWritten (writtenAnswer (signedBytes value) (now (out .entry)))) (now (words .entry)) ⌝ }
+    ensures { λ r. ⌜ now (out .exit) ≡
+        unlessShort (now (words .entry)) (now (out .entry)) (writtenContent (signedBytes value) (now (out .entry))) ⌝ }
 {
     let room = granted(words.len(), out.len());
     let answer = writers::write_i32(&mut out[0..room], value);
@@ -312,9 +382,13 @@ pub extern "C" fn pot_write_i32(out: &mut [u8], value: i32, words: &mut [u64]) -
 // Writes a UInt of at most 32 bits.
 #[no_mangle]
 pub extern "C" fn pot_write_u32(out: &mut [u8], value: u32, words: &mut [u64]) -> u64
-    ensures { λ r. ⌜ r ≡ numberOf (saidWritten (writtenAnswer (unsignedBytes value) (now (out .entry)))) (now (words .entry)) ⌝ }
-    ensures { λ r. ⌜ now (words .exit) ≡ wordsOf (saidWritten (writtenAnswer (unsignedBytes value) (now (out .entry)))) (now (words .entry)) ⌝ }
-    ensures { λ r. ⌜ now (out .exit) ≡ unlessShort (now (words .entry)) (now (out .entry)) (writtenContent (unsignedBytes value) (now (out .entry))) ⌝ }
+    ensures { λ r. ⌜ r ≡
+        numberOf (saidWritten (writtenAnswer (unsignedBytes value) (now (out .entry)))) (now (words .entry)) ⌝ }
+    ensures { λ r. ⌜ now (words .exit) ≡
+        wordsOf (saidWritten (writtenAnswer (unsignedBytes value) (now (out .entry)))) (now (words .entry)) ⌝ }
+    ensures { λ r. ⌜ now (out .exit) ≡
+        unlessShort (now (words .entry)) (now (out .entry))
+        (writtenContent (unsignedBytes value) (now (out .entry))) ⌝ }
 {
     let room = granted(words.len(), out.len());
     let answer = writers::write_u32(&mut out[0..room], value);
@@ -324,9 +398,15 @@ pub extern "C" fn pot_write_u32(out: &mut [u8], value: u32, words: &mut [u64]) -
 // Writes an Int of at most 48 bits; refusal 8 of a value that so many bits do not hold.
 #[no_mangle]
 pub extern "C" fn pot_write_i48(out: &mut [u8], value: i64, words: &mut [u64]) -> u64
-    ensures { λ r. ⌜ r ≡ numberOf (saidWritten (heldAnswer (holdsS 6 value) (signedBytes value) (now (out .entry)))) (now (words .entry)) ⌝ }
-    ensures { λ r. ⌜ now (words .exit) ≡ wordsOf (saidWritten (heldAnswer (holdsS 6 value) (signedBytes value) (now (out .entry)))) (now (words .entry)) ⌝ }
-    ensures { λ r. ⌜ now (out .exit) ≡ unlessShort (now (words .entry)) (now (out .entry)) (heldContent (holdsS 6 value) (signedBytes value) (now (out .entry))) ⌝ }
+    ensures { λ r. ⌜ r ≡
+        numberOf (saidWritten (heldAnswer (holdsS 6 value) (signedBytes value) (now (out .entry))))
+        (now (words .entry)) ⌝ }
+    ensures { λ r. ⌜ now (words .exit) ≡
+        wordsOf (saidWritten (heldAnswer (holdsS 6 value) (signedBytes value) (now (out .entry))))
+        (now (words .entry)) ⌝ }
+    ensures { λ r. ⌜ now (out .exit) ≡
+        unlessShort (now (words .entry)) (now (out .entry))
+        (heldContent (holdsS 6 value) (signedBytes value) (now (out .entry))) ⌝ }
 {
     let room = granted(words.len(), out.len());
     let answer = writers::write_i48(&mut out[0..room], value);
@@ -336,9 +416,15 @@ pub extern "C" fn pot_write_i48(out: &mut [u8], value: i64, words: &mut [u64]) -
 // Writes a UInt of at most 48 bits; refusal 8 of a value that so many bits do not hold.
 #[no_mangle]
 pub extern "C" fn pot_write_u48(out: &mut [u8], value: u64, words: &mut [u64]) -> u64
-    ensures { λ r. ⌜ r ≡ numberOf (saidWritten (heldAnswer (holdsU 6 value) (unsignedBytes value) (now (out .entry)))) (now (words .entry)) ⌝ }
-    ensures { λ r. ⌜ now (words .exit) ≡ wordsOf (saidWritten (heldAnswer (holdsU 6 value) (unsignedBytes value) (now (out .entry)))) (now (words .entry)) ⌝ }
-    ensures { λ r. ⌜ now (out .exit) ≡ unlessShort (now (words .entry)) (now (out .entry)) (heldContent (holdsU 6 value) (unsignedBytes value) (now (out .entry))) ⌝ }
+    ensures { λ r. ⌜ r ≡
+        numberOf (saidWritten (heldAnswer (holdsU 6 value) (unsignedBytes value) (now (out .entry))))
+        (now (words .entry)) ⌝ }
+    ensures { λ r. ⌜ now (words .exit) ≡
+        wordsOf (saidWritten (heldAnswer (holdsU 6 value) (unsignedBytes value) (now (out .entry))))
+        (now (words .entry)) ⌝ }
+    ensures { λ r. ⌜ now (out .exit) ≡
+        unlessShort (now (words .entry)) (now (out .entry))
+        (heldContent (holdsU 6 value) (unsignedBytes value) (now (out .entry))) ⌝ }
 {
     let room = granted(words.len(), out.len());
     let answer = writers::write_u48(&mut out[0..room], value);
@@ -348,9 +434,12 @@ pub extern "C" fn pot_write_u48(out: &mut [u8], value: u64, words: &mut [u64]) -
 // Writes an Int of at most 64 bits.
 #[no_mangle]
 pub extern "C" fn pot_write_i64(out: &mut [u8], value: i64, words: &mut [u64]) -> u64
-    ensures { λ r. ⌜ r ≡ numberOf (saidWritten (writtenAnswer (signedBytes value) (now (out .entry)))) (now (words .entry)) ⌝ }
-    ensures { λ r. ⌜ now (words .exit) ≡ wordsOf (saidWritten (writtenAnswer (signedBytes value) (now (out .entry)))) (now (words .entry)) ⌝ }
-    ensures { λ r. ⌜ now (out .exit) ≡ unlessShort (now (words .entry)) (now (out .entry)) (writtenContent (signedBytes value) (now (out .entry))) ⌝ }
+    ensures { λ r. ⌜ r ≡
+        numberOf (saidWritten (writtenAnswer (signedBytes value) (now (out .entry)))) (now (words .entry)) ⌝ }
+    ensures { λ r. ⌜ now (words .exit) ≡
+        wordsOf (saidWritten (writtenAnswer (signedBytes value) (now (out .entry)))) (now (words .entry)) ⌝ }
+    ensures { λ r. ⌜ now (out .exit) ≡
+        unlessShort (now (words .entry)) (now (out .entry)) (writtenContent (signedBytes value) (now (out .entry))) ⌝ }
 {
     let room = granted(words.len(), out.len());
     let answer = writers::write_i64(&mut out[0..room], value);
@@ -360,9 +449,13 @@ pub extern "C" fn pot_write_i64(out: &mut [u8], value: i64, words: &mut [u64]) -
 // Writes a UInt of at most 64 bits.
 #[no_mangle]
 pub extern "C" fn pot_write_u64(out: &mut [u8], value: u64, words: &mut [u64]) -> u64
-    ensures { λ r. ⌜ r ≡ numberOf (saidWritten (writtenAnswer (unsignedBytes value) (now (out .entry)))) (now (words .entry)) ⌝ }
-    ensures { λ r. ⌜ now (words .exit) ≡ wordsOf (saidWritten (writtenAnswer (unsignedBytes value) (now (out .entry)))) (now (words .entry)) ⌝ }
-    ensures { λ r. ⌜ now (out .exit) ≡ unlessShort (now (words .entry)) (now (out .entry)) (writtenContent (unsignedBytes value) (now (out .entry))) ⌝ }
+    ensures { λ r. ⌜ r ≡
+        numberOf (saidWritten (writtenAnswer (unsignedBytes value) (now (out .entry)))) (now (words .entry)) ⌝ }
+    ensures { λ r. ⌜ now (words .exit) ≡
+        wordsOf (saidWritten (writtenAnswer (unsignedBytes value) (now (out .entry)))) (now (words .entry)) ⌝ }
+    ensures { λ r. ⌜ now (out .exit) ≡
+        unlessShort (now (words .entry)) (now (out .entry))
+        (writtenContent (unsignedBytes value) (now (out .entry))) ⌝ }
 {
     let room = granted(words.len(), out.len());
     let answer = writers::write_u64(&mut out[0..room], value);
@@ -372,9 +465,15 @@ pub extern "C" fn pot_write_u64(out: &mut [u8], value: u64, words: &mut [u64]) -
 // Writes an Int of at most 128 bits, whose value is two words in two's complement.
 #[no_mangle]
 pub extern "C" fn pot_write_i128(out: &mut [u8], low: u64, high: u64, words: &mut [u64]) -> u64
-    ensures { λ r. ⌜ r ≡ numberOf (saidWritten (writtenAnswer (signedBytes (joinedSigned (record { lo = low; hi = high }))) (now (out .entry)))) (now (words .entry)) ⌝ }
-    ensures { λ r. ⌜ now (words .exit) ≡ wordsOf (saidWritten (writtenAnswer (signedBytes (joinedSigned (record { lo = low; hi = high }))) (now (out .entry)))) (now (words .entry)) ⌝ }
-    ensures { λ r. ⌜ now (out .exit) ≡ unlessShort (now (words .entry)) (now (out .entry)) (writtenContent (signedBytes (joinedSigned (record { lo = low; hi = high }))) (now (out .entry))) ⌝ }
+    ensures { λ r. ⌜ r ≡
+        numberOf (saidWritten (writtenAnswer (signedBytes (joinedSigned (record { lo = low; hi = high })))
+        (now (out .entry)))) (now (words .entry)) ⌝ }
+    ensures { λ r. ⌜ now (words .exit) ≡
+        wordsOf (saidWritten (writtenAnswer (signedBytes (joinedSigned (record { lo = low; hi = high })))
+        (now (out .entry)))) (now (words .entry)) ⌝ }
+    ensures { λ r. ⌜ now (out .exit) ≡
+        unlessShort (now (words .entry)) (now (out .entry))
+        (writtenContent (signedBytes (joinedSigned (record { lo = low; hi = high }))) (now (out .entry))) ⌝ }
 {
     let room = granted(words.len(), out.len());
     let answer = writers::write_i128(&mut out[0..room], Wide { lo: low, hi: high });
@@ -384,9 +483,15 @@ pub extern "C" fn pot_write_i128(out: &mut [u8], low: u64, high: u64, words: &mu
 // Writes a UInt of at most 128 bits, whose value is two words.
 #[no_mangle]
 pub extern "C" fn pot_write_u128(out: &mut [u8], low: u64, high: u64, words: &mut [u64]) -> u64
-    ensures { λ r. ⌜ r ≡ numberOf (saidWritten (writtenAnswer (unsignedBytes (joined (record { lo = low; hi = high }))) (now (out .entry)))) (now (words .entry)) ⌝ }
-    ensures { λ r. ⌜ now (words .exit) ≡ wordsOf (saidWritten (writtenAnswer (unsignedBytes (joined (record { lo = low; hi = high }))) (now (out .entry)))) (now (words .entry)) ⌝ }
-    ensures { λ r. ⌜ now (out .exit) ≡ unlessShort (now (words .entry)) (now (out .entry)) (writtenContent (unsignedBytes (joined (record { lo = low; hi = high }))) (now (out .entry))) ⌝ }
+    ensures { λ r. ⌜ r ≡
+        numberOf (saidWritten (writtenAnswer (unsignedBytes (joined (record { lo = low; hi = high })))
+        (now (out .entry)))) (now (words .entry)) ⌝ }
+    ensures { λ r. ⌜ now (words .exit) ≡
+        wordsOf (saidWritten (writtenAnswer (unsignedBytes (joined (record { lo = low; hi = high })))
+        (now (out .entry)))) (now (words .entry)) ⌝ }
+    ensures { λ r. ⌜ now (out .exit) ≡
+        unlessShort (now (words .entry)) (now (out .entry))
+        (writtenContent (unsignedBytes (joined (record { lo = low; hi = high }))) (now (out .entry))) ⌝ }
 {
     let room = granted(words.len(), out.len());
     let answer = writers::write_u128(&mut out[0..room], Wide { lo: low, hi: high });
@@ -396,9 +501,15 @@ pub extern "C" fn pot_write_u128(out: &mut [u8], low: u64, high: u64, words: &mu
 // Writes a string.
 #[no_mangle]
 pub extern "C" fn pot_write_bytes(out: &mut [u8], value: &[u8], words: &mut [u64]) -> u64
-    ensures { λ r. ⌜ r ≡ numberOf (saidWritten (writtenAnswer (bytesBytes (now (value .entry))) (now (out .entry)))) (now (words .entry)) ⌝ }
-    ensures { λ r. ⌜ now (words .exit) ≡ wordsOf (saidWritten (writtenAnswer (bytesBytes (now (value .entry))) (now (out .entry)))) (now (words .entry)) ⌝ }
-    ensures { λ r. ⌜ now (out .exit) ≡ unlessShort (now (words .entry)) (now (out .entry)) (writtenContent (bytesBytes (now (value .entry))) (now (out .entry))) ⌝ }
+    ensures { λ r. ⌜ r ≡
+        numberOf (saidWritten (writtenAnswer (bytesBytes (now (value .entry))) (now (out .entry))))
+        (now (words .entry)) ⌝ }
+    ensures { λ r. ⌜ now (words .exit) ≡
+        wordsOf (saidWritten (writtenAnswer (bytesBytes (now (value .entry))) (now (out .entry))))
+        (now (words .entry)) ⌝ }
+    ensures { λ r. ⌜ now (out .exit) ≡
+        unlessShort (now (words .entry)) (now (out .entry))
+        (writtenContent (bytesBytes (now (value .entry))) (now (out .entry))) ⌝ }
 {
     let room = granted(words.len(), out.len());
     let answer = writers::write_bytes(&mut out[0..room], value);
@@ -408,9 +519,12 @@ pub extern "C" fn pot_write_bytes(out: &mut [u8], value: &[u8], words: &mut [u64
 // Writes a float of 32 bits, given by its bits.
 #[no_mangle]
 pub extern "C" fn pot_write_f32(out: &mut [u8], bits: u32, words: &mut [u64]) -> u64
-    ensures { λ r. ⌜ r ≡ numberOf (saidWritten (writtenAnswer (f32Bytes bits) (now (out .entry)))) (now (words .entry)) ⌝ }
-    ensures { λ r. ⌜ now (words .exit) ≡ wordsOf (saidWritten (writtenAnswer (f32Bytes bits) (now (out .entry)))) (now (words .entry)) ⌝ }
-    ensures { λ r. ⌜ now (out .exit) ≡ unlessShort (now (words .entry)) (now (out .entry)) (writtenContent (f32Bytes bits) (now (out .entry))) ⌝ }
+    ensures { λ r. ⌜ r ≡
+        numberOf (saidWritten (writtenAnswer (f32Bytes bits) (now (out .entry)))) (now (words .entry)) ⌝ }
+    ensures { λ r. ⌜ now (words .exit) ≡
+        wordsOf (saidWritten (writtenAnswer (f32Bytes bits) (now (out .entry)))) (now (words .entry)) ⌝ }
+    ensures { λ r. ⌜ now (out .exit) ≡
+        unlessShort (now (words .entry)) (now (out .entry)) (writtenContent (f32Bytes bits) (now (out .entry))) ⌝ }
 {
     let room = granted(words.len(), out.len());
     let answer = float::write_f32_bits(&mut out[0..room], bits);
@@ -420,9 +534,12 @@ pub extern "C" fn pot_write_f32(out: &mut [u8], bits: u32, words: &mut [u64]) ->
 // Writes a float of 64 bits, given by its bits.
 #[no_mangle]
 pub extern "C" fn pot_write_f64(out: &mut [u8], bits: u64, words: &mut [u64]) -> u64
-    ensures { λ r. ⌜ r ≡ numberOf (saidWritten (writtenAnswer (f64Bytes bits) (now (out .entry)))) (now (words .entry)) ⌝ }
-    ensures { λ r. ⌜ now (words .exit) ≡ wordsOf (saidWritten (writtenAnswer (f64Bytes bits) (now (out .entry)))) (now (words .entry)) ⌝ }
-    ensures { λ r. ⌜ now (out .exit) ≡ unlessShort (now (words .entry)) (now (out .entry)) (writtenContent (f64Bytes bits) (now (out .entry))) ⌝ }
+    ensures { λ r. ⌜ r ≡
+        numberOf (saidWritten (writtenAnswer (f64Bytes bits) (now (out .entry)))) (now (words .entry)) ⌝ }
+    ensures { λ r. ⌜ now (words .exit) ≡
+        wordsOf (saidWritten (writtenAnswer (f64Bytes bits) (now (out .entry)))) (now (words .entry)) ⌝ }
+    ensures { λ r. ⌜ now (out .exit) ≡
+        unlessShort (now (words .entry)) (now (out .entry)) (writtenContent (f64Bytes bits) (now (out .entry))) ⌝ }
 {
     let room = granted(words.len(), out.len());
     let answer = float::write_f64_bits(&mut out[0..room], bits);
@@ -437,9 +554,16 @@ pub extern "C" fn pot_write_atom_header(
     arg: u64,
     words: &mut [u64],
 ) -> u64
-    ensures { λ r. ⌜ r ≡ numberOf (saidWritten (ofKind (λ k. writtenAnswer (headerBytes k arg) (now (out .entry))) Refused (kindFrom kind))) (now (words .entry)) ⌝ }
-    ensures { λ r. ⌜ now (words .exit) ≡ wordsOf (saidWritten (ofKind (λ k. writtenAnswer (headerBytes k arg) (now (out .entry))) Refused (kindFrom kind))) (now (words .entry)) ⌝ }
-    ensures { λ r. ⌜ now (out .exit) ≡ unlessShort (now (words .entry)) (now (out .entry)) (ofKind (λ k. writtenContent (headerBytes k arg) (now (out .entry))) (λ r. (now (out .entry))) (kindFrom kind)) ⌝ }
+    ensures { λ r. ⌜ r ≡
+        numberOf (saidWritten (ofKind (λ k. writtenAnswer (headerBytes k arg) (now (out .entry))) Refused
+        (kindFrom kind))) (now (words .entry)) ⌝ }
+    ensures { λ r. ⌜ now (words .exit) ≡
+        wordsOf (saidWritten (ofKind (λ k. writtenAnswer (headerBytes k arg) (now (out .entry))) Refused
+        (kindFrom kind))) (now (words .entry)) ⌝ }
+    ensures { λ r. ⌜ now (out .exit) ≡
+        unlessShort (now (words .entry)) (now (out .entry))
+        (ofKind (λ k. writtenContent (headerBytes k arg) (now (out .entry))) (λ r. (now (out .entry)))
+        (kindFrom kind)) ⌝ }
 {
     let room = granted(words.len(), out.len());
     match Kind::from_u8(kind) {
@@ -454,9 +578,16 @@ pub extern "C" fn pot_write_atom_header(
 // Writes a special, given by its code.
 #[no_mangle]
 pub extern "C" fn pot_write_special(out: &mut [u8], special: u64, words: &mut [u64]) -> u64
-    ensures { λ r. ⌜ r ≡ numberOf (saidWritten (ofSpecial (λ k. writtenAnswer (specialBytes k) (now (out .entry))) Refused (specialFrom special))) (now (words .entry)) ⌝ }
-    ensures { λ r. ⌜ now (words .exit) ≡ wordsOf (saidWritten (ofSpecial (λ k. writtenAnswer (specialBytes k) (now (out .entry))) Refused (specialFrom special))) (now (words .entry)) ⌝ }
-    ensures { λ r. ⌜ now (out .exit) ≡ unlessShort (now (words .entry)) (now (out .entry)) (ofSpecial (λ k. writtenContent (specialBytes k) (now (out .entry))) (λ r. (now (out .entry))) (specialFrom special)) ⌝ }
+    ensures { λ r. ⌜ r ≡
+        numberOf (saidWritten (ofSpecial (λ k. writtenAnswer (specialBytes k) (now (out .entry))) Refused
+        (specialFrom special))) (now (words .entry)) ⌝ }
+    ensures { λ r. ⌜ now (words .exit) ≡
+        wordsOf (saidWritten (ofSpecial (λ k. writtenAnswer (specialBytes k) (now (out .entry))) Refused
+        (specialFrom special))) (now (words .entry)) ⌝ }
+    ensures { λ r. ⌜ now (out .exit) ≡
+        unlessShort (now (words .entry)) (now (out .entry))
+        (ofSpecial (λ k. writtenContent (specialBytes k) (now (out .entry))) (λ r. (now (out .entry)))
+        (specialFrom special)) ⌝ }
 {
     let room = granted(words.len(), out.len());
     match Special::try_from(special) {
@@ -477,9 +608,16 @@ pub extern "C" fn pot_write_integer(
     high: u64,
     words: &mut [u64],
 ) -> u64
-    ensures { λ r. ⌜ r ≡ numberOf (saidWritten (ofInteger (λ k. writtenAnswer (valueBytes k) (now (out .entry))) Refused (integerOfWords variant (record { lo = low; hi = high })))) (now (words .entry)) ⌝ }
-    ensures { λ r. ⌜ now (words .exit) ≡ wordsOf (saidWritten (ofInteger (λ k. writtenAnswer (valueBytes k) (now (out .entry))) Refused (integerOfWords variant (record { lo = low; hi = high })))) (now (words .entry)) ⌝ }
-    ensures { λ r. ⌜ now (out .exit) ≡ unlessShort (now (words .entry)) (now (out .entry)) (ofInteger (λ k. writtenContent (valueBytes k) (now (out .entry))) (λ r. (now (out .entry))) (integerOfWords variant (record { lo = low; hi = high }))) ⌝ }
+    ensures { λ r. ⌜ r ≡
+        numberOf (saidWritten (ofInteger (λ k. writtenAnswer (valueBytes k) (now (out .entry))) Refused
+        (integerOfWords variant (record { lo = low; hi = high })))) (now (words .entry)) ⌝ }
+    ensures { λ r. ⌜ now (words .exit) ≡
+        wordsOf (saidWritten (ofInteger (λ k. writtenAnswer (valueBytes k) (now (out .entry))) Refused
+        (integerOfWords variant (record { lo = low; hi = high })))) (now (words .entry)) ⌝ }
+    ensures { λ r. ⌜ now (out .exit) ≡
+        unlessShort (now (words .entry)) (now (out .entry))
+        (ofInteger (λ k. writtenContent (valueBytes k) (now (out .entry))) (λ r. (now (out .entry)))
+        (integerOfWords variant (record { lo = low; hi = high }))) ⌝ }
 {
     let room = granted(words.len(), out.len());
     match recast::integer_from(variant, low, high) {
@@ -494,9 +632,15 @@ pub extern "C" fn pot_write_integer(
 // Writes a boolean: false of 0, true of any other number.
 #[no_mangle]
 pub extern "C" fn pot_write_bool(out: &mut [u8], value: u8, words: &mut [u64]) -> u64
-    ensures { λ r. ⌜ r ≡ numberOf (saidWritten (writtenAnswer (specialBytes (truth (not (eqb value 0)))) (now (out .entry)))) (now (words .entry)) ⌝ }
-    ensures { λ r. ⌜ now (words .exit) ≡ wordsOf (saidWritten (writtenAnswer (specialBytes (truth (not (eqb value 0)))) (now (out .entry)))) (now (words .entry)) ⌝ }
-    ensures { λ r. ⌜ now (out .exit) ≡ unlessShort (now (words .entry)) (now (out .entry)) (writtenContent (specialBytes (truth (not (eqb value 0)))) (now (out .entry))) ⌝ }
+    ensures { λ r. ⌜ r ≡
+        numberOf (saidWritten (writtenAnswer (specialBytes (truth (not (eqb value 0)))) (now (out .entry))))
+        (now (words .entry)) ⌝ }
+    ensures { λ r. ⌜ now (words .exit) ≡
+        wordsOf (saidWritten (writtenAnswer (specialBytes (truth (not (eqb value 0)))) (now (out .entry))))
+        (now (words .entry)) ⌝ }
+    ensures { λ r. ⌜ now (out .exit) ≡
+        unlessShort (now (words .entry)) (now (out .entry))
+        (writtenContent (specialBytes (truth (not (eqb value 0)))) (now (out .entry))) ⌝ }
 {
     let room = granted(words.len(), out.len());
     let answer = writers::write_bool(&mut out[0..room], value != 0);
@@ -512,8 +656,12 @@ pub extern "C" fn pot_integer_cast(
     high: u64,
     words: &mut [u64],
 ) -> u64
-    ensures { λ r. ⌜ r ≡ numberOf (ofInteger (λ x. saidCast (recast to x)) saidRefused (integerOfWords variant (record { lo = low; hi = high }))) (now (words .entry)) ⌝ }
-    ensures { λ r. ⌜ now (words .exit) ≡ wordsOf (ofInteger (λ x. saidCast (recast to x)) saidRefused (integerOfWords variant (record { lo = low; hi = high }))) (now (words .entry)) ⌝ }
+    ensures { λ r. ⌜ r ≡
+        numberOf (ofInteger (λ x. saidCast (recast to x)) saidRefused
+        (integerOfWords variant (record { lo = low; hi = high }))) (now (words .entry)) ⌝ }
+    ensures { λ r. ⌜ now (words .exit) ≡
+        wordsOf (ofInteger (λ x. saidCast (recast to x)) saidRefused
+        (integerOfWords variant (record { lo = low; hi = high }))) (now (words .entry)) ⌝ }
 {
     match recast::integer_from(variant, low, high) {
         AsInteger::Value(x) => return words::say_cast(words, recast::recast(to, x)),
@@ -524,8 +672,12 @@ pub extern "C" fn pot_integer_cast(
 // Casts an integer to an f32.
 #[no_mangle]
 pub extern "C" fn pot_integer_as_f32(variant: u64, low: u64, high: u64, words: &mut [u64]) -> u64
-    ensures { λ r. ⌜ r ≡ numberOf (ofInteger (λ x. saidAsF32 (asF32 x)) saidRefused (integerOfWords variant (record { lo = low; hi = high }))) (now (words .entry)) ⌝ }
-    ensures { λ r. ⌜ now (words .exit) ≡ wordsOf (ofInteger (λ x. saidAsF32 (asF32 x)) saidRefused (integerOfWords variant (record { lo = low; hi = high }))) (now (words .entry)) ⌝ }
+    ensures { λ r. ⌜ r ≡
+        numberOf (ofInteger (λ x. saidAsF32 (asF32 x)) saidRefused
+        (integerOfWords variant (record { lo = low; hi = high }))) (now (words .entry)) ⌝ }
+    ensures { λ r. ⌜ now (words .exit) ≡
+        wordsOf (ofInteger (λ x. saidAsF32 (asF32 x)) saidRefused
+        (integerOfWords variant (record { lo = low; hi = high }))) (now (words .entry)) ⌝ }
 {
     match recast::integer_from(variant, low, high) {
         AsInteger::Value(x) => return words::say_as_f32(words, cast::as_f32(x)),
@@ -536,8 +688,12 @@ pub extern "C" fn pot_integer_as_f32(variant: u64, low: u64, high: u64, words: &
 // Casts an integer to an f64.
 #[no_mangle]
 pub extern "C" fn pot_integer_as_f64(variant: u64, low: u64, high: u64, words: &mut [u64]) -> u64
-    ensures { λ r. ⌜ r ≡ numberOf (ofInteger (λ x. saidAsF64 (asF64 x)) saidRefused (integerOfWords variant (record { lo = low; hi = high }))) (now (words .entry)) ⌝ }
-    ensures { λ r. ⌜ now (words .exit) ≡ wordsOf (ofInteger (λ x. saidAsF64 (asF64 x)) saidRefused (integerOfWords variant (record { lo = low; hi = high }))) (now (words .entry)) ⌝ }
+    ensures { λ r. ⌜ r ≡
+        numberOf (ofInteger (λ x. saidAsF64 (asF64 x)) saidRefused
+        (integerOfWords variant (record { lo = low; hi = high }))) (now (words .entry)) ⌝ }
+    ensures { λ r. ⌜ now (words .exit) ≡
+        wordsOf (ofInteger (λ x. saidAsF64 (asF64 x)) saidRefused
+        (integerOfWords variant (record { lo = low; hi = high }))) (now (words .entry)) ⌝ }
 {
     match recast::integer_from(variant, low, high) {
         AsInteger::Value(x) => return words::say_as_f64(words, cast::as_f64(x)),
@@ -567,7 +723,8 @@ pub extern "C" fn pot_f64_as_f32(bits: u64, words: &mut [u64]) -> u64
 #[no_mangle]
 pub extern "C" fn pot_f32_as_integer(bits: u32, words: &mut [u64]) -> u64
     ensures { λ r. ⌜ r ≡ numberOf (saidAsInteger (asInteger (F32 (ofBits binary32 bits)))) (now (words .entry)) ⌝ }
-    ensures { λ r. ⌜ now (words .exit) ≡ wordsOf (saidAsInteger (asInteger (F32 (ofBits binary32 bits)))) (now (words .entry)) ⌝ }
+    ensures { λ r. ⌜ now (words .exit) ≡
+        wordsOf (saidAsInteger (asInteger (F32 (ofBits binary32 bits)))) (now (words .entry)) ⌝ }
 {
     let value = Float::F32(binary::f32_of_bits(bits));
     words::say_as_integer(words, float_cast::as_integer(value))
@@ -577,7 +734,8 @@ pub extern "C" fn pot_f32_as_integer(bits: u32, words: &mut [u64]) -> u64
 #[no_mangle]
 pub extern "C" fn pot_f64_as_integer(bits: u64, words: &mut [u64]) -> u64
     ensures { λ r. ⌜ r ≡ numberOf (saidAsInteger (asInteger (F64 (ofBits binary64 bits)))) (now (words .entry)) ⌝ }
-    ensures { λ r. ⌜ now (words .exit) ≡ wordsOf (saidAsInteger (asInteger (F64 (ofBits binary64 bits)))) (now (words .entry)) ⌝ }
+    ensures { λ r. ⌜ now (words .exit) ≡
+        wordsOf (saidAsInteger (asInteger (F64 (ofBits binary64 bits)))) (now (words .entry)) ⌝ }
 {
     let value = Float::F64(binary::f64_of_bits(bits));
     words::say_as_integer(words, float_cast::as_integer(value))

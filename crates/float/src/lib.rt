@@ -1,5 +1,5 @@
-// Floats read from bytes and written into a lent buffer, and what a float answers of itself: whether it is zero, its casts
-// and its equality. Document 01, "Bytes of an atom" and "Casts"; format.rs, `write_f32`, `write_f64` and `Float`.
+// Floats read from bytes and written into a lent buffer, and what a float answers of itself: whether it is zero, its
+// casts and its equality. Document 01, "Bytes of an atom" and "Casts"; format.rs, `write_f32`, `write_f64` and `Float`.
 ghost use mathlib.Core.Bool.{true};
 ghost use mathlib.Core.Path.{_≡_};
 ghost use Prim.Native.Nat.{_+_, _<_, _≤_, _^_};
@@ -126,7 +126,8 @@ pub fn write_f32_bits(out: &mut [u8], bits: u32) -> Written
     }
 }
 
-// Writes a float of 8 bytes by its bits, in 2 or 4 bytes if it is a binary16 or a binary32 value. A NaN's bits are kept.
+// Writes a float of 8 bytes by its bits, in 2 or 4 bytes if it is a binary16 or a binary32 value. A NaN's bits are
+// kept.
 pub fn write_f64_bits(out: &mut [u8], bits: u64) -> Written
     ensures { λ r. ⌜ r ≡ writtenAnswer (f64Bytes bits) (now (out .entry)) ⌝ }
     ensures { λ r. ⌜ now (out .exit) ≡ writtenContent (f64Bytes bits) (now (out .entry)) ⌝ }

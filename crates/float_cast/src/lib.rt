@@ -1,5 +1,5 @@
-// A float as an integer. Document 01, "Casts"; format.rs, `Float::as_integer`. Both widths go by the binary64 pattern of their
-// value: the exponent says where the whole number ends.
+// A float as an integer. Document 01, "Casts"; format.rs, `Float::as_integer`. Both widths go by the binary64 pattern
+// of their value: the exponent says where the whole number ends.
 ghost use mathlib.Core.Path.{_≡_};
 ghost use Prim.Native.Nat.{_<_, _^_};
 ghost use mir.Syntax.{w32, w64};

@@ -1,5 +1,5 @@
-// The atom header and the file's signature, read under each way and written into a lent buffer. Document 01, "Bytes of an
-// atom"; format.rs, `write_atom_header` to `read_header`.
+// The atom header and the file's signature, read under each way and written into a lent buffer. Document 01, "Bytes of
+// an atom"; format.rs, `write_atom_header` to `read_header`.
 ghost use mathlib.Core.Path.{_≡_};
 ghost use mathlib.Core.List.{_∷_};
 ghost use Prim.Native.Nat.{_≤_, _<_, _+_, _*_, _^_};

@@ -106,7 +106,8 @@ pub fn filled_integer(kind: Kind, source: &[u8], at: usize, count: u64) -> Integ
     integer_at(kind, &block, 0, count)
 }
 
-// Reads an integer of a kind and a count of bytes (the argument of the atom's header, plus one) at a place, under a way.
+// Reads an integer of a kind and a count of bytes (the argument of the atom's header, plus one) at a place, under a
+// way.
 pub fn read_from(kind: Kind, count: u64, source: &[u8], place: Place, way: Way) -> IntegerAnswer
     ensures { λ r. ⌜ r ≡ integerRead way (now (source .entry)) (place .0) kind count ⌝ }
 {

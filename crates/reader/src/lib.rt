@@ -30,7 +30,8 @@ pub fn part(slice: &[u8], start: usize, len: usize) -> &[u8]
 // Resolves a delivery mark: a part of the source if lent, else of the scratch.
 pub fn as_slice<'a>(source: &'a [u8], scratch: &'a [u8], mark: Mark) -> &'a [u8]
     ensures { λ r. ⌜ now r ≡ markedBytes mark (now (source .entry)) (now (scratch .entry)) ⌝ }
-    ensures { λ r. ⌜ ptr r ≡ markedPointer mark (ptr (source .entry)) (ptr (scratch .entry)) (now (source .entry)) (now (scratch .entry)) ⌝ }
+    ensures { λ r. ⌜ ptr r ≡
+        markedPointer mark (ptr (source .entry)) (ptr (scratch .entry)) (now (source .entry)) (now (scratch .entry)) ⌝ }
 {
     let start = mark.start;
     let len = mark.len;
@@ -64,7 +65,8 @@ pub fn lend_bytes(source: &[u8], place: Place, length: u64) -> BytesAnswer
 // Reads a string into the first bytes of scratch. The end of input is judged before the room.
 pub fn copy_bytes(source: &[u8], place: Place, length: u64, scratch: &mut [u8]) -> BytesAnswer
     ensures { λ r. ⌜ r ≡ copiedString (now (source .entry)) (place .0) length (now (scratch .entry)) ⌝ }
-    ensures { λ r. ⌜ now (scratch .exit) ≡ copiedScratch (now (source .entry)) (place .0) length (now (scratch .entry)) ⌝ }
+    ensures { λ r. ⌜ now (scratch .exit) ≡
+        copiedScratch (now (source .entry)) (place .0) length (now (scratch .entry)) ⌝ }
 {
     let end = source.len();
     let at = place.within(end);
@@ -97,7 +99,8 @@ pub fn buffered_read_bytes(
     way: Way,
 ) -> BytesAnswer
     ensures { λ r. ⌜ r ≡ stringAnswer way (now (source .entry)) (place .0) length (now (scratch .entry)) ⌝ }
-    ensures { λ r. ⌜ now (scratch .exit) ≡ stringScratch way (now (source .entry)) (place .0) length (now (scratch .entry)) ⌝ }
+    ensures { λ r. ⌜ now (scratch .exit) ≡
+        stringScratch way (now (source .entry)) (place .0) length (now (scratch .entry)) ⌝ }
 {
     match way {
         Way::Filled | Way::ExactLent => {
@@ -130,7 +133,8 @@ pub fn read(source: &[u8], place: Place, buffer: &mut [u8]) -> RawAnswer
 // Fills the whole buffer. Where fewer bytes are left, filled reading takes these, and exact reading refuses.
 pub fn read_exact(source: &[u8], place: Place, buffer: &mut [u8], way: Way) -> RawAnswer
     ensures { λ r. ⌜ r ≡ rawExactly way (now (source .entry)) (place .0) (now (buffer .entry)) ⌝ }
-    ensures { λ r. ⌜ now (buffer .exit) ≡ rawExactlyBuffer way (now (source .entry)) (place .0) (now (buffer .entry)) ⌝ }
+    ensures { λ r. ⌜ now (buffer .exit) ≡
+        rawExactlyBuffer way (now (source .entry)) (place .0) (now (buffer .entry)) ⌝ }
 {
     let end = source.len();
     let at = place.within(end);

@@ -1,5 +1,5 @@
-// A request of oracle/FORMAT.md, answered from the proved functions as the oracle answers it: each code goes to the crate
-// that has its entry. A code that none has is not answered.
+// A request of oracle/FORMAT.md, answered from the proved functions as the oracle answers it: each code goes to the
+// crate that has its entry. A code that none has is not answered.
 use replay_wire::Cursor;
 use replay_wire::Reply;
 

@@ -1,5 +1,5 @@
-// The requests about an atom and the budget, answered from the proved functions: 20, 27 and 28 of oracle/FORMAT.md. Test
-// machinery: proved is that every request is taken and every answer ends.
+// The requests about an atom and the budget, answered from the proved functions: 20, 27 and 28 of oracle/FORMAT.md.
+// Test machinery: proved is that every request is taken and every answer ends.
 use replay_wire::Cursor;
 use replay_wire::Reply;
 use types::Atom;

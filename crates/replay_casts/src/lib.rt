@@ -1,5 +1,5 @@
-// The requests about an integer's casts, equality and conversions, answered from the proved functions: 30 to 3d, 3f and 40
-// to 49 of oracle/FORMAT.md. Test machinery: proved is that every request is taken and every answer ends.
+// The requests about an integer's casts, equality and conversions, answered from the proved functions: 30 to 3d, 3f and
+// 40 to 49 of oracle/FORMAT.md. Test machinery: proved is that every request is taken and every answer ends.
 use replay_wire::Cursor;
 use replay_wire::Reply;
 use types::AsF32;

@@ -1,5 +1,5 @@
-// The request that reads an integer, answered from the proved function: 21 of oracle/FORMAT.md. Test machinery: proved is
-// that every request is taken and every answer ends.
+// The request that reads an integer, answered from the proved function: 21 of oracle/FORMAT.md. Test machinery: proved
+// is that every request is taken and every answer ends.
 use replay_wire::Cursor;
 use replay_wire::Reply;
 use types::IntegerAnswer;

@@ -7,7 +7,8 @@ use types::Budget;
 use types::Kind;
 use types::Place;
 
-// A read of a sequence: its code, the kind that it names, and the count or the length. A read that names none has zeros.
+// A read of a sequence: its code, the kind that it names, and the count or the length. A read that names none has
+// zeros.
 pub struct Wanted {
     pub cursor: Cursor,
     pub code: u64,

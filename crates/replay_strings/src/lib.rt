@@ -1,5 +1,5 @@
-// The requests that move bytes, answered from the proved functions: 23 to 25 of oracle/FORMAT.md. Test machinery: proved
-// is that every request is taken and every answer ends.
+// The requests that move bytes, answered from the proved functions: 23 to 25 of oracle/FORMAT.md. Test machinery:
+// proved is that every request is taken and every answer ends.
 use replay_wire::Cursor;
 use replay_wire::Reply;
 use types::BytesAnswer;

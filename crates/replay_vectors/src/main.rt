@@ -1,5 +1,6 @@
-// Replays the vectors, oracle/vectors: each request is answered from the proved functions and the answer compared with the
-// oracle's, topic by topic. Proved is that every text is judged and judging ends, and that each line is counted once.
+// Replays the vectors, oracle/vectors: each request is answered from the proved functions and the answer compared with
+// the oracle's, topic by topic. Proved is that every text is judged and judging ends, and that each line is counted
+// once.
 ghost use mathlib.Core.Path.{_≡_};
 ghost use Prim.Native.Nat.{_+_, _<_, _^_, _≤_};
 ghost use lib.ListN.{length};

@@ -1,7 +1,7 @@
 // The line format of the oracle, oracle/FORMAT.md: the fields of a request are read, those of an answer are put into a
-// lent buffer, and a vector is taken apart into its request and its answer. Test machinery: what is proved is that every
-// function takes every input and ends, and the bounds that callers need; that a field is read and put as FORMAT.md says
-// is seen by the vectors alone, whose answers would differ.
+// lent buffer, and a vector is taken apart into its request and its answer. Test machinery: what is proved is that
+// every function takes every input and ends, and the bounds that callers need; that a field is read and put as
+// FORMAT.md says is seen by the vectors alone, whose answers would differ.
 mod fields;
 mod lines;
 mod put;

@@ -1,5 +1,5 @@
-// The fields that are numbers, oracle/FORMAT.md: wides, integers by variant, floats by their bits. Test machinery: proved
-// is that every function takes every input and ends.
+// The fields that are numbers, oracle/FORMAT.md: wides, integers by variant, floats by their bits. Test machinery:
+// proved is that every function takes every input and ends.
 use replay_wire::Cursor;
 use replay_wire::Reply;
 use types::AsWide;

@@ -1,5 +1,5 @@
-// The requests that write integers, specials and strings, answered from the proved functions: 3e, 60 to 6d and 70 to 75 of
-// oracle/FORMAT.md. Test machinery: proved is that every request is taken and every answer ends.
+// The requests that write integers, specials and strings, answered from the proved functions: 3e, 60 to 6d and 70 to 75
+// of oracle/FORMAT.md. Test machinery: proved is that every request is taken and every answer ends.
 use replay_wire::Cursor;
 use replay_wire::Reply;
 use types::Integer;

@@ -1,5 +1,5 @@
-// The text that the tally program prints of a file. Document 01, "Tally". The lines are put together in a buffer of their
-// own, which holds the longest text, so that the room of the whole is judged before any of it is written.
+// The text that the tally program prints of a file. Document 01, "Tally". The lines are put together in a buffer of
+// their own, which holds the longest text, so that the room of the whole is judged before any of it is written.
 ghost use mathlib.Core.Path.{_≡_};
 ghost use mathlib.Core.List.{_++_};
 ghost use Prim.Native.Nat.{_≤_, _+_};
@@ -17,7 +17,9 @@ use types::Written;
 // Puts bytes behind the first `at` of a text that has room for them, and answers where they end.
 fn append(text: &mut [u8], at: usize, bytes: &[u8]) -> usize
     requires { ⌜ at + length (now bytes) ≤ length (now text) ⌝ }
-    ensures { λ r. ⌜ (r ≡ at + length (now (bytes .entry))) × (take r (now (text .exit)) ≡ take at (now (text .entry)) ++ now (bytes .entry)) ⌝ }
+    ensures { λ r. ⌜
+        (r ≡ at + length (now (bytes .entry))) ×
+        (take r (now (text .exit)) ≡ take at (now (text .entry)) ++ now (bytes .entry)) ⌝ }
 {
     lent::copy_in(&mut text[at..], bytes);
     at + bytes.len()
@@ -36,7 +38,9 @@ fn append_decimal(text: &mut [u8], at: usize, number: u64) -> usize
 // Appends a line: a name with its `=`, a number and a newline.
 fn append_line(text: &mut [u8], at: usize, name: &[u8], number: u64) -> usize
     requires { ⌜ at + length (now name) + 21 ≤ length (now text) ⌝ }
-    ensures { λ r. ⌜ (r ≤ at + length (now (name .entry)) + 21) × (take r (now (text .exit)) ≡ take at (now (text .entry)) ++ line (now (name .entry)) number) ⌝ }
+    ensures { λ r. ⌜
+        (r ≤ at + length (now (name .entry)) + 21) ×
+        (take r (now (text .exit)) ≡ take at (now (text .entry)) ++ line (now (name .entry)) number) ⌝ }
 {
     let named = append(text, at, name);
     let numbered = append_decimal(text, named, number);

@@ -1,17 +1,15 @@
-// The reader that holds the slice still to be read, over the finished core. Document 01, "Two ways of reading" and "Port
-// order and changes of shape", and `SliceReader` of reader.rs. It reads filled: a number byte past the end reads as zero,
-// and only a string can run out.
-// What is for whom:
-// - `SliceReader` and its functions are the original's reader, for a caller that holds one and goes on with it. An answer
-//   that carries the reader on is a struct with the answer beside the reader, since an enum can't hold a reference. Who
-//   calls them has a reader in a local, and so a proof by hand: the steps of it are `proofs/Holding.antt`, and
-//   `held_over` of `test_slice_reader` is such a caller. Each function is thin: it takes the reader apart and calls
-//   what stands on the plain slice.
-// - `left_from`, and of each read the one at a slice's start and what it leaves (`integer_at_start`, `left_by_integer`),
-//   do the work. They are for the functions over the reader, and for a caller that carries the slice itself.
-// - The six functions at the end, `len_of` to `rest_after_atom`, make a reader of a slice, let it do one thing and hand
-//   back what is plain of it. They are for a caller that wants the reader's own word without a proof by hand: the replay,
-//   whose loop over a sequence of reads goes by them, so that the reader's functions are held to the original's.
+// The reader that holds the slice still to be read, over the finished core. Document 01, "Two ways of reading" and
+// "Port order and changes of shape", and `SliceReader` of reader.rs. It reads filled: a number byte past the end reads
+// as zero, and only a string can run out. What is for whom: - `SliceReader` and its functions are the original's
+// reader, for a caller that holds one and goes on with it. An answer that carries the reader on is a struct with the
+// answer beside the reader, since an enum can't hold a reference. Who calls them has a reader in a local, and so a
+// proof by hand: the steps of it are `proofs/Holding.antt`, and `held_over` of `test_slice_reader` is such a caller.
+// Each function is thin: it takes the reader apart and calls what stands on the plain slice. - `left_from`, and of each
+// read the one at a slice's start and what it leaves (`integer_at_start`, `left_by_integer`), do the work. They are for
+// the functions over the reader, and for a caller that carries the slice itself. - The six functions at the end,
+// `len_of` to `rest_after_atom`, make a reader of a slice, let it do one thing and hand back what is plain of it. They
+// are for a caller that wants the reader's own word without a proof by hand: the replay, whose loop over a sequence of
+// reads goes by them, so that the reader's functions are held to the original's.
 ghost use mathlib.Core.Path.{_≡_};
 ghost use lib.Dec.{eqb};
 ghost use lib.ListN.{length};
@@ -164,7 +162,9 @@ impl<'a> SliceReader<'a> {
 
     // Reads an integer of a kind and a count of bytes.
     pub fn read_integer(self, kind: Kind, count: u64) -> IntegerRead<'a>
-        ensures { λ r. ⌜ (r .answer ≡ integerGiven (now (self .entry .«data»)) kind count) × LeftOf (self .entry .«data») (integerPlace (r .answer)) (r .reader .«data») ⌝ }
+        ensures { λ r. ⌜
+            (r .answer ≡ integerGiven (now (self .entry .«data»)) kind count) ×
+            LeftOf (self .entry .«data») (integerPlace (r .answer)) (r .reader .«data») ⌝ }
     {
         let data = self.data;
         let answer = integer_at_start(data, kind, count);
@@ -177,7 +177,9 @@ impl<'a> SliceReader<'a> {
 
     // Reads a float of a kind and a count of bytes.
     pub fn read_float(self, kind: Kind, count: u64) -> FloatRead<'a>
-        ensures { λ r. ⌜ (r .answer ≡ floatGiven (now (self .entry .«data»)) kind count) × LeftOf (self .entry .«data») (floatPlace (r .answer)) (r .reader .«data») ⌝ }
+        ensures { λ r. ⌜
+            (r .answer ≡ floatGiven (now (self .entry .«data»)) kind count) ×
+            LeftOf (self .entry .«data») (floatPlace (r .answer)) (r .reader .«data») ⌝ }
     {
         let data = self.data;
         let answer = float_at_start(data, kind, count);
@@ -190,7 +192,9 @@ impl<'a> SliceReader<'a> {
 
     // Reads exactly `length` bytes, lent.
     pub fn buffered_read_bytes(self, length: u64) -> StringRead<'a>
-        ensures { λ r. ⌜ (r .answer ≡ stringGiven (now (self .entry .«data»)) length) × LeftOf (self .entry .«data») (stringPlace (r .answer)) (r .reader .«data») ⌝ }
+        ensures { λ r. ⌜
+            (r .answer ≡ stringGiven (now (self .entry .«data»)) length) ×
+            LeftOf (self .entry .«data») (stringPlace (r .answer)) (r .reader .«data») ⌝ }
     {
         let data = self.data;
         let answer = string_at_start(data, length);
@@ -203,7 +207,9 @@ impl<'a> SliceReader<'a> {
 
     // Reads an atom, strings lent, and charges the budget, which comes back in the answer.
     pub fn read_atom(self, budget: Budget) -> AtomRead<'a>
-        ensures { λ r. ⌜ (r .answer ≡ atomGiven (now (self .entry .«data»)) budget) × LeftOf (self .entry .«data») (atomPlace (r .answer)) (r .reader .«data») ⌝ }
+        ensures { λ r. ⌜
+            (r .answer ≡ atomGiven (now (self .entry .«data»)) budget) ×
+            LeftOf (self .entry .«data») (atomPlace (r .answer)) (r .reader .«data») ⌝ }
     {
         let data = self.data;
         let answer = atom_at_start(data, budget);

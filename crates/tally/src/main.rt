@@ -1,5 +1,5 @@
-// The tally program: reads one file from standard input and writes its text. Document 01, "Tally". What the text is says the
-// contract of `report_text::report_into`; what is left here is to read and to write.
+// The tally program: reads one file from standard input and writes its text. Document 01, "Tally". What the text is
+// says the contract of `report_text::report_into`; what is left here is to read and to write.
 ghost use mathlib.Core.Path.{_≡_};
 ghost use lib.ListN.{length};
 use libc::STDIN_FILENO;

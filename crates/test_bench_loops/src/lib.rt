@@ -109,9 +109,9 @@ fn way_of(code: u64) -> Way {
     }
 }
 
-// Reads every atom of a file under a way: 0 filled, 1 exact and lent, 2 exact and copied. Answers a refusal's number or 0,
-// and the checksum, the number of atoms, the place and the budget. (No atom is empty: the test is there for the proof that
-// the loop ends.)
+// Reads every atom of a file under a way: 0 filled, 1 exact and lent, 2 exact and copied. Answers a refusal's number or
+// 0, and the checksum, the number of atoms, the place and the budget. (No atom is empty: the test is there for the
+// proof that the loop ends.)
 #[no_mangle]
 pub extern "C" fn loop_read(
     source: &[u8],
@@ -203,8 +203,8 @@ fn count_of(written: Written) -> usize {
     }
 }
 
-// Writes a value, of two words, by the writer of a number. Each arm takes the count out of its own answer, so that where a
-// writer is inlined the count stays in a register.
+// Writes a value, of two words, by the writer of a number. Each arm takes the count out of its own answer, so that
+// where a writer is inlined the count stays in a register.
 fn write_one(out: &mut [u8], writer: u64, low: u64, high: u64) -> usize {
     match writer {
         0 => return count_of(writers::write_i8(out, little::i8_of(low % 0x100))),

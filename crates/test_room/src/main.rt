@@ -1,7 +1,7 @@
-// Runs refusal 9. A line of standard input is a number of bytes and a request of oracle/FORMAT.md: the request is answered
-// with a buffer of just so many bytes, which a writer writes into and a reader copies a string into. Each byte of the buffer
-// is a5 before, so that behind the answer the whole buffer shows which bytes were touched. The answers that the program is
-// held to were worked out from document 01's text apart from it, not taken from what it writes.
+// Runs refusal 9. A line of standard input is a number of bytes and a request of oracle/FORMAT.md: the request is
+// answered with a buffer of just so many bytes, which a writer writes into and a reader copies a string into. Each byte
+// of the buffer is a5 before, so that behind the answer the whole buffer shows which bytes were touched. The answers
+// that the program is held to were worked out from document 01's text apart from it, not taken from what it writes.
 use libc::STDIN_FILENO;
 use libc::STDOUT_FILENO;
 use replay_wire::Cursor;

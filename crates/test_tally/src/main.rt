@@ -1,5 +1,5 @@
-// Runs what the tally program writes on its cases: document 01's example, each refusal that it gives, the edges of its length,
-// and numbers of several digits. The texts that it is held to were worked out from document 01 by hand.
+// Runs what the tally program writes on its cases: document 01's example, each refusal that it gives, the edges of its
+// length, and numbers of several digits. The texts that it is held to were worked out from document 01 by hand.
 ghost use mathlib.Core.Path.{_≡_};
 ghost use Prim.Native.Nat.{_≤_};
 ghost use lib.ListN.{length};

@@ -188,15 +188,15 @@ pub enum BudgetAnswer {
     Refused(Refusal),
 }
 
-// What the step that builds no value answers: the place after the atom, the budget left, the place where its body starts,
-// and whether it is a string.
+// What the step that builds no value answers: the place after the atom, the budget left, the place where its body
+// starts, and whether it is a string.
 pub enum Skipped {
     Past(Place, Budget, Place, bool),
     Refused(Place, Budget, Refusal),
 }
 
-// What a run answers: the place, the budget left and the number of atoms read; of a refused atom also its refusal, and the
-// place where it starts.
+// What a run answers: the place, the budget left and the number of atoms read; of a refused atom also its refusal, and
+// the place where it starts.
 pub enum Ran {
     Done(Place, Budget, u64),
     Stopped(Place, Budget, u64, Refusal, Place),
