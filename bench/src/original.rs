@@ -49,18 +49,30 @@ fn atom_word(atom: &Atom<'_>, scratch: &[u8]) -> u64 {
     word ^ atom.kind as u64 ^ atom.arg
 }
 
-/// A reader that can tell how many bytes it has left.
+/// A reader over a slice that can tell how many bytes it has left.
 pub trait Source<'a>: Reader<'a> {
+    #[cfg(feature = "exports")]
+    fn over(source: &'a [u8]) -> Self;
     fn left(&self) -> usize;
 }
 
 impl<'a> Source<'a> for SliceReader<'a> {
+    #[cfg(feature = "exports")]
+    fn over(source: &'a [u8]) -> Self {
+        Self::from(source)
+    }
+
     fn left(&self) -> usize {
         self.len()
     }
 }
 
 impl<'a> Source<'a> for IoReader<&'a [u8]> {
+    #[cfg(feature = "exports")]
+    fn over(source: &'a [u8]) -> Self {
+        Self::new(source)
+    }
+
     fn left(&self) -> usize {
         self.reader.len()
     }
@@ -151,12 +163,12 @@ fn count_letters(bytes: &[u8]) -> u64 {
 #[cfg(feature = "exports")]
 pub type ReadOne = unsafe extern "C" fn(*const u8, usize, usize, u64, &mut Vec<u8>, *mut u64, usize) -> u64;
 
-/// Reads an atom by the reader that fills.
+/// Reads an atom by a reader.
 ///
 /// # Safety
 /// Each address comes with the number of what is there.
 #[cfg(feature = "exports")]
-pub unsafe extern "C" fn read_one_filled(
+pub unsafe extern "C" fn read_one<'a, R: Source<'a>>(
     source: *const u8,
     source_len: usize,
     place: usize,
@@ -167,26 +179,7 @@ pub unsafe extern "C" fn read_one_filled(
 ) -> u64 {
     let source = std::slice::from_raw_parts(source, source_len);
     let words = std::slice::from_raw_parts_mut(words, words_len);
-    say(source, SliceReader::from(&source[place.min(source_len)..]), budget, scratch, words)
-}
-
-/// Reads an atom by the reader that refuses what is cut.
-///
-/// # Safety
-/// As of `read_one_filled`.
-#[cfg(feature = "exports")]
-pub unsafe extern "C" fn read_one_exact(
-    source: *const u8,
-    source_len: usize,
-    place: usize,
-    budget: u64,
-    scratch: &mut Vec<u8>,
-    words: *mut u64,
-    words_len: usize,
-) -> u64 {
-    let source = std::slice::from_raw_parts(source, source_len);
-    let words = std::slice::from_raw_parts_mut(words, words_len);
-    say(source, IoReader::new(&source[place.min(source_len)..]), budget, scratch, words)
+    say(source, R::over(&source[place.min(source_len)..]), budget, scratch, words)
 }
 
 /// The answer's number and its words; the stored bits of a float, which the original does not keep, are left 0.

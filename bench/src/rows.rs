@@ -4,6 +4,8 @@ use std::cell::RefCell;
 
 use crate::inputs::{self, Draw};
 use crate::proved::{Way, Writer};
+#[cfg(feature = "exports")]
+use crate::reader::{IoReader, SliceReader};
 use crate::timing::Race;
 #[cfg(feature = "exports")]
 use crate::Found;
@@ -36,13 +38,13 @@ fn file(race: &mut Race, name: &str, source: &[u8]) {
 #[cfg(feature = "exports")]
 fn boundary(race: &mut Race, name: &str, source: &[u8]) {
     let mut scratch = vec![0; 1 << 16];
-    calls(race, name, "filled", source, false, original::read_one_filled, |place, budget, words| {
+    calls(race, name, "filled", source, false, original::read_one::<SliceReader>, |place, budget, words| {
         proved::read_one_filled(source, place, budget, words)
     });
-    calls(race, name, "exact, lent", source, false, original::read_one_exact, |place, budget, words| {
+    calls(race, name, "exact, lent", source, false, original::read_one::<IoReader<&[u8]>>, |place, budget, words| {
         proved::read_one_exact(source, place, budget, words)
     });
-    calls(race, name, "exact, copied", source, true, original::read_one_exact, |place, budget, words| {
+    calls(race, name, "exact, copied", source, true, original::read_one::<IoReader<&[u8]>>, |place, budget, words| {
         proved::read_one_copied(source, place, budget, &mut scratch, words)
     });
 }
