@@ -107,10 +107,18 @@ pub enum Nucleus {
     DynamicEnd,
 }
 
-// A kind, its argument, and the value that follows, if any.
+// Where an atom stands in its source: its first place, the place where its body starts and the place after it.
+pub struct Places {
+    pub first: Place,
+    pub body: Place,
+    pub after: Place,
+}
+
+// A kind, its argument, its places, and the value that follows, if any.
 pub struct Atom {
     pub kind: Kind,
     pub arg: u64,
+    pub places: Places,
     pub nucleus: Nucleus,
 }
 
@@ -188,18 +196,18 @@ pub enum BudgetAnswer {
     Refused(Refusal),
 }
 
-// What the step that builds no value answers: the place after the atom, the budget left, the place where its body
-// starts, and whether it is a string.
+// What the step that builds no value answers: the place after the atom, the budget left, the atom's places, and whether
+// it is a string.
 pub enum Skipped {
-    Past(Place, Budget, Place, bool),
+    Past(Place, Budget, Places, bool),
     Refused(Place, Budget, Refusal),
 }
 
-// What a run answers: the place, the budget left and the number of atoms read; of a refused atom also its refusal, and
-// the place where it starts.
+// What a run answers: the place, the budget left, the number of atoms read and the places of the last of them, zeros if
+// there was none; of a refused atom also its refusal, and the place where it starts.
 pub enum Ran {
-    Done(Place, Budget, u64),
-    Stopped(Place, Budget, u64, Refusal, Place),
+    Done(Place, Budget, u64, Places),
+    Stopped(Place, Budget, u64, Places, Refusal, Place),
 }
 
 // What a file holds: its atoms, their body bytes, their charges and the letters of their strings.
@@ -210,11 +218,12 @@ pub struct Tallied {
     pub letters: u64,
 }
 
-// What a tally answers: of a refused atom, the place where it starts; of an input that is too long, the refusal alone.
+// What a tally answers: the places of the last atom that it read, zeros if there was none; then what the file holds, or
+// of a refused atom its refusal and the place where it starts. An input that is too long is refused before any is read.
 pub enum TallyAnswer {
-    Stopped(Place, Refusal),
-    Done(Tallied),
-    Refused(Refusal),
+    Done(Places, Tallied),
+    Stopped(Places, Refusal, Place),
+    Refused(Places, Refusal),
 }
 
 pub enum AsI8 {
