@@ -12,6 +12,9 @@ use lib.Ieee as Ieee
 use Rattle.types.specs.declared.Way.{Way}
 use Rattle.types.specs.declared.Way.the-variants as W
 use Rattle.types.specs.declared.Place.{Place}
+use Rattle.types.specs.declared.Places.{Places}
+use Rattle.types.specs.declared.Atom.{Atom}
+use Rattle.types.specs.declared.AtomAnswer.the-variants as A
 use Rattle.types.specs.declared.Budget.{Budget}
 use Rattle.types.specs.declared.Kind.{Kind}
 use Rattle.types.specs.declared.Kind.the-variants as K
@@ -40,10 +43,13 @@ use Rattle.promises.specs.Casts.{EveryCast, WholeFloatRows, IntegralRows
 use Rattle.promises.specs.Casts.{FloatZeroRows, EqualIntegerRows, EqualFloatRows}
 use Rattle.promises.specs.Floats.{Ieee754}
 use Rattle.promises.specs.Runs.{RunRow}
+use Rattle.promises.specs.Placed.{Stands, between, earlier, moved, Chain, anyWay, exactly, Each, Level, Ahead}
 use Rattle.promises.specs.Values.{Value, written, roomFor, ReadBack}
 use Rattle.promises.proofs.Demand1 as Demand1
 use Rattle.promises.proofs.Entries as Entries
 use Rattle.promises.proofs.Runs as Runs
+use Rattle.promises.proofs.Stands as Stands
+use Rattle.promises.proofs.Alone as Alone
 use Rattle.promises.proofs.Demand2 as Demand2
 use Rattle.promises.proofs.IntegerCasts as IntegerCasts
 use Rattle.promises.proofs.Integrals as Integrals
@@ -139,6 +145,31 @@ pub demand1-run-atom : (s front rest : List ℕ) (left : ℕ) {why : Refusal} {p
     toldAtom (atomRead W.ExactLent s (length front) (record { 0 = left }) [])
     ≡ refused (pos (length front + past) ∷ pos (left - charge) ∷ []) why
 demand1-run-atom = Runs.barred-atom
+
+-- THE PLACES OF AN ATOM (document 02, K1): every atom that is read stands where it says, whatever the way,
+pub demand1-places : (way : Way) (s : List ℕ) (place : ℕ) (budget : Budget) (scratch : List ℕ) (after : Place)
+    (left : Budget) (atom : Atom) →
+    atomRead way s place budget scratch ≡ A.Read after left atom →
+    Stands way s place after atom
+demand1-places = Stands.stands
+
+-- its bytes read alone, from place 0, as the same atom moved by its first place,
+pub demand1-alone : (way : Way) (s : List ℕ) (place : ℕ) (budget : Budget) (scratch : List ℕ) (after : Place)
+    (left : Budget) (atom : Atom) →
+    atomRead way s place budget scratch ≡ A.Read after left atom →
+    atomRead way (between s (atom .places .first .0) (atom .places .after .0)) 0 budget scratch
+    ≡ A.Read (earlier (atom .places .first .0) (atom .places .after)) left (moved (atom .places .first .0) atom)
+demand1-alone = Alone.alone
+
+-- and of any chain of reads, each from the place after the one before, all three rise or stay level; under exact
+-- reading the first place rises.
+pub demand1-chain : {s : List ℕ} {place : ℕ} {places : List Places} → Chain anyWay s place places → Each Level places
+demand1-chain = Stands.rises
+
+pub demand1-chain-exact : {s : List ℕ} {place : ℕ} {places : List Places} →
+    Chain exactly s place places →
+    Each Ahead places
+demand1-chain-exact = Stands.rises-exactly
 
 -- 2: WHAT WAS WRITTEN READS BACK as the value written: every value, every way, anything before and after it, any budget
 -- of at least the price, any scratch with room.
