@@ -131,7 +131,7 @@ at first body after = placesOf (record { 0 = first }) (record { 0 = body }) (rec
 pub integer-said :
     saidAtom (A.Read (record { 0 = 4 }) (record { 0 = 0 })
     (record { kind = K.Int; arg = 2; places = at 0 1 4; nucleus = N.Integer (I.I32 (negsuc 8388607)) }))
-    ≡ laid 0 (4 ∷ 0 ∷ 1 ∷ 2 ∷ 2 ∷ 2 ∷ 2 ^ 64 - 8388608 ∷ 2 ^ 64 - 1 ∷ 0 ∷ 1 ∷ 4 ∷ 0 ∷ [])
+    ≡ laid 0 (4 ∷ 0 ∷ 1 ∷ 2 ∷ 2 ∷ 2 ∷ (2 ^ 64 - 8388608) ∷ (2 ^ 64 - 1) ∷ 0 ∷ 1 ∷ 4 ∷ 0 ∷ [])
 unfolding saidAtom
 integer-said = refl
 
