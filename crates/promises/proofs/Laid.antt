@@ -2,16 +2,11 @@
 -- rust/tests/layout.rs finds the same in the array that the library wrote.
 use mathlib.Core.Path.{_≡_, refl}
 use Prim.Native.Nat.{ℕ, _-_, _^_}
-use mathlib.Core.Bool.{Bool, true}
+use mathlib.Core.Bool.{true}
 use mathlib.Core.List.{List, [], _∷_}
-use lib.ListN.{take, drop}
 use lib.IntN.{negsuc}
-use Rattle.types.specs.Counters.{placesOf, noPlaces}
-use Rattle.types.specs.declared.Place.{Place}
+use Rattle.types.specs.Counters.{placesOf}
 use Rattle.types.specs.declared.Places.{Places}
-use Rattle.types.specs.declared.Budget.{Budget}
-use Rattle.types.specs.declared.Atom.{Atom}
-use Rattle.types.specs.declared.Refusal.{Refusal}
 use Rattle.types.specs.declared.Kind.the-variants as K
 use Rattle.types.specs.declared.Integer.the-variants as I
 use Rattle.types.specs.declared.Nucleus.the-variants as N
@@ -70,52 +65,6 @@ pub integer-number : (a : AsInteger) → saidAsInteger a .number ≡ toldAsInteg
 unfolding saidAsInteger
 integer-number (In.Value x) = refl
 integer-number (In.Refused r) = refl
-
--- ---- the places: words 8, 9 and 10
-
-abbrev placesSaid : Said → List ℕ
-placesSaid said = take 3 (drop 8 (said .words))
-
-abbrev placesLaid : Places → List ℕ
-placesLaid places = places .first .0 ∷ places .body .0 ∷ places .after .0 ∷ []
-
--- those of an atom that was read, and of one that was skipped, are its own; a refused one has none
-pub atom-places : (p : Place) (b : Budget) (x : Atom) →
-    placesSaid (saidAtom (A.Read p b x)) ≡ placesLaid (x .places)
-unfolding saidAtom
-atom-places p b x = refl
-
-pub skipped-places : (p : Place) (b : Budget) (places : Places) (string : Bool) →
-    placesSaid (saidSkipped (SK.Past p b places string)) ≡ placesLaid places
-unfolding saidSkipped
-skipped-places p b places string = refl
-
-pub refused-places : (p : Place) (b : Budget) (r : Refusal) →
-    (placesSaid (saidAtom (A.Refused p b r)) ≡ placesLaid noPlaces)
-    × (placesSaid (saidSkipped (SK.Refused p b r)) ≡ placesLaid noPlaces)
-unfolding saidAtom saidSkipped
-refused-places p b r = (refl, refl)
-
--- those of a run and of a tally, refused or not, are those of the last atom that was read
-abbrev lastRan : Ran → Places
-lastRan (RN.Done p b atoms last) = last
-lastRan (RN.Stopped p b atoms last r start) = last
-
-pub ran-places : (a : Ran) → placesSaid (saidRan a) ≡ placesLaid (lastRan a)
-unfolding saidRan
-ran-places (RN.Done p b atoms last) = refl
-ran-places (RN.Stopped p b atoms last r start) = refl
-
-abbrev lastTallied : TallyAnswer → Places
-lastTallied (TA.Done last t) = last
-lastTallied (TA.Stopped last r start) = last
-lastTallied (TA.Refused last r) = last
-
-pub tally-places : (a : TallyAnswer) → placesSaid (saidTally a) ≡ placesLaid (lastTallied a)
-unfolding saidTally
-tally-places (TA.Done last t) = refl
-tally-places (TA.Stopped last r start) = refl
-tally-places (TA.Refused last r) = refl
 
 -- ---- examples
 
