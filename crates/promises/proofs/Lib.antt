@@ -20,6 +20,7 @@ pub mod Recast
 pub mod Exports
 pub mod Laid
 pub mod FloatWords
+pub mod PlaceWords
 pub mod Exactly
 pub mod Filled
 pub mod Held
