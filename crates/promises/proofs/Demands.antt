@@ -144,8 +144,8 @@ demand1-run-atom = Runs.barred-atom
 
 -- THE PLACES OF ATOMS. (Document 02, K1.)
 
--- 2: WHAT WAS WRITTEN READS BACK as the value written: every value, every way, anything before and after it, any budget
--- of at least the price, any scratch with room.
+-- 2: WHAT WAS WRITTEN READS BACK as the value written, with the places where it stands: every value, every way,
+-- anything before and after it, any budget of at least the price, any scratch with room.
 pub demand2 : (way : Way) (before after : List ℕ) (budget : Budget) (scratch : List ℕ) (value : Value) →
     price (written value) ≤ budget .0 →
     roomFor way value ≤ length scratch →
