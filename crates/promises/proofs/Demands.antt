@@ -173,8 +173,8 @@ pub demand1-chain-exact : {s : List ℕ} {place : ℕ} {places : List Places} �
     Each Ahead places
 demand1-chain-exact = Stands.rises-exactly
 
--- 2: WHAT WAS WRITTEN READS BACK as the value written: every value, every way, anything before and after it, any budget
--- of at least the price, any scratch with room.
+-- 2: WHAT WAS WRITTEN READS BACK as the value written, with the places where it stands: every value, every way,
+-- anything before and after it, any budget of at least the price, any scratch with room.
 pub demand2 : (way : Way) (before after : List ℕ) (budget : Budget) (scratch : List ℕ) (value : Value) →
     price (written value) ≤ budget .0 →
     roomFor way value ≤ length scratch →
