@@ -95,16 +95,16 @@ module _ (kind : Kind) (k : integerKind kind ≡ true) (arg : ℕ) where
   integer-unknown = either-kind (λ x. unknown x arg ≡ unsupported x (countOf arg)) refl refl kind k
 
 -- a number of an allowed count whose charge is within the budget: the body follows
-module _ (way : Way) (s : List ℕ) (arg : ℕ) (next : Place) (budget rest : Budget) (bytes : ℕ) (b : bytes ≡ countOf arg)
-    (left : budgetAfter budget (numberCharge bytes) ≡ BA.Left rest) where
+module _ (way : Way) (s : List ℕ) (arg : ℕ) (first next : Place) (budget rest : Budget) (bytes : ℕ)
+    (b : bytes ≡ countOf arg) (left : budgetAfter budget (numberCharge bytes) ≡ BA.Left rest) where
   pub integer-left : (kind : Kind) → integerKind kind ≡ true → allowedCount bytes ≡ true →
-      integerAtom kind arg rest (integerBody way s (next .0) kind bytes)
-      ≡ judged kind arg next budget (integerTaken way s kind arg next)
+      integerAtom kind arg first next rest (integerBody way s (next .0) kind bytes)
+      ≡ judged kind arg next budget (integerTaken way s kind arg first next)
   unfolding judged
   integer-left kind k a = cc (integer-known kind k arg, integer-long kind k arg, integer-costs kind k arg)
 
   pub float-left : allowedFloat bytes ≡ true →
-      floatAtom arg rest (floatBody way s (next .0) bytes)
-      ≡ judged K.Float arg next budget (floatTaken way s arg next)
+      floatAtom arg first next rest (floatBody way s (next .0) bytes)
+      ≡ judged K.Float arg next budget (floatTaken way s arg first next)
   unfolding judged
   float-left a = cc

@@ -9,6 +9,7 @@ use borrow.Author.Tests.{le-leb, lt-leb, lt-ltb, le-ltb, ne-eqb}
 use types.Run.{OneOf, miss}
 use denote.Enum.Declared.{tagOf}
 use lib.ListN.{length}
+use Rattle.types.specs.Counters.{placeIn, placesOf}
 use Rattle.types.specs.Kinds.{specialFrom}
 use Rattle.types.specs.Ways.{exact}
 use Rattle.types.specs.Forms.{countOf, numberCharge, chargeOf, unsupported}
@@ -20,6 +21,7 @@ use Rattle.types.specs.declared.Kind.{Kind}
 use Rattle.types.specs.declared.Kind.the-variants as K
 use Rattle.types.specs.declared.Special.{Special}
 use Rattle.types.specs.declared.Place.{Place}
+use Rattle.types.specs.declared.Places.{Places}
 use Rattle.types.specs.declared.Budget.{Budget}
 use Rattle.types.specs.declared.Mark.{Mark}
 use Rattle.types.specs.declared.Integer.{Integer}
@@ -76,15 +78,16 @@ pub ruleset charge-ends =
     (three-cost-four, six-cost-eight, others-cost-themselves, budget-short, budget-enough, needs)
 
 -- a special, known and not; it costs nothing
-module _ (arg : ℕ) (next : Place) (budget : Budget) (got : SpecialAnswer) (g : got ≡ specialFrom arg) where
-  pub special-known : (special : Special) (nucleus : Nucleus) → got ≡ SA.Known special →
-      nucleus ≡ specialNucleus special →
-      A.Read next budget (atomOf K.Special arg nucleus) ≡ judged K.Special arg next budget (specialTaken arg next)
+module _ (arg : ℕ) (first next : Place) (budget : Budget) (got : SpecialAnswer) (g : got ≡ specialFrom arg) where
+  pub special-known : (special : Special) (places : Places) (nucleus : Nucleus) → got ≡ SA.Known special →
+      nucleus ≡ specialNucleus special → places ≡ placesOf first next next →
+      A.Read next budget (atomOf K.Special arg places nucleus)
+      ≡ judged K.Special arg next budget (specialTaken arg first next)
   unfolding judged
-  special-known special nucleus e n = cc (free budget, special-below arg special (sym g ∙ e))
+  special-known special places nucleus e n p = cc (free budget, special-below arg special (sym g ∙ e))
 
   pub special-unknown : (r : Refusal) → got ≡ SA.Refused r →
-      A.Refused next budget r ≡ judged K.Special arg next budget (specialTaken arg next)
+      A.Refused next budget r ≡ judged K.Special arg next budget (specialTaken arg first next)
   unfolding judged
   special-unknown r e =
       let above = special-above arg r (sym g ∙ e) in
@@ -93,69 +96,73 @@ module _ (arg : ℕ) (next : Place) (budget : Budget) (got : SpecialAnswer) (g :
 pub ruleset special-ends = (special-known, special-unknown, needs)
 
 -- the atom of a number: what it holds was made before
-pub integer-held : (kind : Kind) (arg count bits : ℕ) (value : Integer) (atom : Atom) →
-    value ≡ integerOf kind count bits → atom ≡ atomOf kind arg (N.Integer value) →
-    atom ≡ atomOf kind arg (N.Integer (integerOf kind count bits))
-integer-held kind arg count bits value atom v a = cc
+pub integer-held : (kind : Kind) (arg count bits : ℕ) (made places : Places) (value : Integer) (atom : Atom) →
+    value ≡ integerOf kind count bits → made ≡ places → atom ≡ atomOf kind arg made (N.Integer value) →
+    atom ≡ atomOf kind arg places (N.Integer (integerOf kind count bits))
+integer-held kind arg count bits made places value atom v p a = cc
 
-pub float-held : (arg count bits stored : ℕ) (atom : Atom) → stored ≡ bits →
-    atom ≡ atomOf K.Float arg (N.Float (floatOf count stored) stored) →
-    atom ≡ atomOf K.Float arg (N.Float (floatOf count bits) bits)
-float-held arg count bits stored atom v a = cc
+pub float-held : (arg count bits stored : ℕ) (made places : Places) (atom : Atom) → stored ≡ bits → made ≡ places →
+    atom ≡ atomOf K.Float arg made (N.Float (floatOf count stored) stored) →
+    atom ≡ atomOf K.Float arg places (N.Float (floatOf count bits) bits)
+float-held arg count bits stored made places atom v p a = cc
 
-pub float-made : (arg count bits : ℕ) (value : Float) → value ≡ floatOf count bits →
-    atomOf K.Float arg (N.Float value bits) ≡ atomOf K.Float arg (N.Float (floatOf count bits) bits)
-float-made arg count bits value v = cc
+pub float-made : (arg count bits : ℕ) (places : Places) (value : Float) → value ≡ floatOf count bits →
+    atomOf K.Float arg places (N.Float value bits) ≡ atomOf K.Float arg places (N.Float (floatOf count bits) bits)
+float-made arg count bits places value v = cc
 
 -- a number, once its header is read and its charge judged
-module _ (n : NumberForm) (way : Way) (s : List ℕ) (arg : ℕ) (next : Place) (budget : Budget) where
+module _ (n : NumberForm) (way : Way) (s : List ℕ) (arg : ℕ) (first next : Place) (budget : Budget) where
   module _ (count charge : ℕ) (paid : BudgetAnswer) (m : Means n arg) (c : count ≡ countOf arg)
       (h : charge ≡ numberCharge count) (p : paid ≡ budgetAfter budget charge) where
     -- the charge exceeds the budget
     pub number-too-dear : (r : Refusal) → paid ≡ BA.Refused r →
-        A.Refused next budget R.TooManyBytesRead ≡ numberAfter n way s arg next budget
+        A.Refused next budget R.TooManyBytesRead ≡ numberAfter n way s arg first next budget
     unfolding numberAfter judged
     number-too-dear r e = cc (m .costs, too-many budget charge r (sym p ∙ e))
 
     module _ (rest : Budget) (ok : Bool) (left : paid ≡ BA.Left rest) (o : ok ≡ n .allowed count) where
       -- the count is not allowed
       pub number-unsupported : (kind : Kind) (why : Refusal) → n .kind ≡ kind → why ≡ unsupported kind count →
-          ok ≡ false → A.Refused next rest why ≡ numberAfter n way s arg next budget
+          ok ≡ false → A.Refused next rest why ≡ numberAfter n way s arg first next budget
       unfolding numberAfter judged
       number-unsupported kind why k w f = cc (m .costs, m .knows, m .refuses)
 
       -- it is: the bytes are there; they are not, in exact reading, and in filled reading
       module _ (f : ok ≡ true) (within : next .0 ≤ length s) where
         pub number-whole : (atom : Atom) → count ≤ length s - next .0 →
-            atom ≡ atomOf (n .kind) arg (n .nucleus count (numberAt count s (next .0))) →
-            A.Read (record { 0 = next .0 + count }) rest atom ≡ numberAfter n way s arg next budget
+            atom
+            ≡ atomOf (n .kind) arg (placesOf first next (record { 0 = next .0 + count }))
+            (n .nucleus count (numberAt count s (next .0))) →
+            A.Read (record { 0 = next .0 + count }) rest atom ≡ numberAfter n way s arg first next budget
         unfolding numberAfter judged
         number-whole atom l a =
             cc (m .costs, m .knows, m .long, le-leb (next .0 + count) (length s) (omega arith))
 
         module _ (exactly : Bool) (l : length s - next .0 < count) (x : exactly ≡ exact way) where
           pub number-past-end : exactly ≡ true →
-              A.Refused (record { 0 = length s }) rest R.Eof ≡ numberAfter n way s arg next budget
+              A.Refused (record { 0 = length s }) rest R.Eof ≡ numberAfter n way s arg first next budget
           unfolding numberAfter judged
           number-past-end y =
               cc (m .costs, m .knows, m .long, lt-leb (next .0 + count) (length s) (omega arith))
 
           pub number-filled : (atom : Atom) → exactly ≡ false →
-              atom ≡ atomOf (n .kind) arg (n .nucleus count (numberAt count s (next .0))) →
-              A.Read (record { 0 = length s }) rest atom ≡ numberAfter n way s arg next budget
+              atom
+              ≡ atomOf (n .kind) arg (placesOf first next (record { 0 = length s }))
+              (n .nucleus count (numberAt count s (next .0))) →
+              A.Read (record { 0 = length s }) rest atom ≡ numberAfter n way s arg first next budget
           unfolding numberAfter judged
           number-filled atom y a =
               cc (m .costs, m .knows, m .long, lt-leb (next .0 + count) (length s) (omega arith))
 
 -- an integer and a float are numbers
-module _ (way : Way) (s : List ℕ) (arg : ℕ) (next : Place) (budget : Budget) (answer : AtomAnswer) where
-  pub integer-as-number : (kind : Kind) → answer ≡ numberAfter (integers kind) way s arg next budget →
-      answer ≡ judged kind arg next budget (integerTaken way s kind arg next)
-  integer-as-number kind e = e ∙ sym (integer-number way s arg next kind budget)
+module _ (way : Way) (s : List ℕ) (arg : ℕ) (first next : Place) (budget : Budget) (answer : AtomAnswer) where
+  pub integer-as-number : (kind : Kind) → answer ≡ numberAfter (integers kind) way s arg first next budget →
+      answer ≡ judged kind arg next budget (integerTaken way s kind arg first next)
+  integer-as-number kind e = e ∙ sym (integer-number way s arg first next kind budget)
 
-  pub float-as-number : answer ≡ numberAfter floats way s arg next budget →
-      answer ≡ judged K.Float arg next budget (floatTaken way s arg next)
-  float-as-number e = e ∙ sym (float-number way s arg next budget)
+  pub float-as-number : answer ≡ numberAfter floats way s arg first next budget →
+      answer ≡ judged K.Float arg next budget (floatTaken way s arg first next)
+  float-as-number e = e ∙ sym (float-number way s arg first next budget)
 
 -- a test that a callee made, and how it came out
 pub tested : (ok said found : Bool) → ok ≡ said → ok ≡ found → said ≡ found
@@ -169,11 +176,11 @@ pub ruleset held-ends =
 pub ruleset number-ends = (judged-ends, held-ends, tested, needs)
 
 -- a string, once its header is read
-module _ (way : Way) (s : List ℕ) (arg : ℕ) (next : Place) (budget : Budget) (scratch : List ℕ) (paid : BudgetAnswer)
-    (p : paid ≡ budgetAfter budget arg) where
+module _ (way : Way) (s : List ℕ) (arg : ℕ) (first next : Place) (budget : Budget) (scratch : List ℕ)
+    (paid : BudgetAnswer) (p : paid ≡ budgetAfter budget arg) where
   -- the charge exceeds the budget, and scratch is as it was
   pub string-too-dear : (r : Refusal) → paid ≡ BA.Refused r →
-      A.Refused next budget R.TooManyBytesRead ≡ judged K.Bytes arg next budget (bytesTaken way s arg next scratch)
+      A.Refused next budget R.TooManyBytesRead ≡ judged K.Bytes arg next budget (bytesTaken way s arg first next scratch)
   string-too-dear r e = judged-dear K.Bytes arg next budget _ r (sym p ∙ e)
 
   pub scratch-kept : (r : Refusal) → paid ≡ BA.Refused r →
@@ -183,14 +190,14 @@ module _ (way : Way) (s : List ℕ) (arg : ℕ) (next : Place) (budget : Budget)
   -- it does not: the string is read, or refused, and scratch is as the string leaves it
   module _ (rest : Budget) (left : paid ≡ BA.Left rest) where
     module _ (got : BytesAnswer) (g : got ≡ stringAnswer way s (next .0) arg scratch) (place : Place) where
-      pub string-read : (mark : Mark) (atom : Atom) → got ≡ B.Read place mark →
-          atom ≡ atomOf K.Bytes arg (N.Bytes mark) →
-          A.Read place rest atom ≡ judged K.Bytes arg next budget (bytesTaken way s arg next scratch)
+      pub string-read : (mark : Mark) (places : Places) (atom : Atom) → got ≡ B.Read place mark →
+          places ≡ placesOf first next place → atom ≡ atomOf K.Bytes arg places (N.Bytes mark) →
+          A.Read place rest atom ≡ judged K.Bytes arg next budget (bytesTaken way s arg first next scratch)
       unfolding judged
-      string-read mark atom e a = cc
+      string-read mark places atom e m a = cc
 
       pub string-refused : (r : Refusal) → got ≡ B.Refused place r →
-          A.Refused place rest r ≡ judged K.Bytes arg next budget (bytesTaken way s arg next scratch)
+          A.Refused place rest r ≡ judged K.Bytes arg next budget (bytesTaken way s arg first next scratch)
       unfolding judged
       string-refused r e = cc
 
@@ -203,20 +210,22 @@ pub ruleset string-ends = (string-too-dear, scratch-kept, string-read, string-re
 -- what follows a header of a known kind, and what it leaves in scratch
 module _ (way : Way) (s : List ℕ) (kind known : Kind) (arg : ℕ) (next : Place) (budget : Budget) (scratch : List ℕ)
     (k : kind ≡ known) where
-  pub body-of : (answer : AtomAnswer) → answer ≡ atomAfter way s known arg next budget scratch →
-      answer ≡ atomAfter way s kind arg next budget scratch
-  body-of answer e = cc
+  pub body-of : (first : Place) (answer : AtomAnswer) →
+      answer ≡ atomAfter way s known arg first next budget scratch →
+      answer ≡ atomAfter way s kind arg first next budget scratch
+  body-of first answer e = cc
 
   pub scratch-of : (after : List ℕ) → after ≡ scratchAfter way s known arg next budget scratch →
       after ≡ scratchAfter way s kind arg next budget scratch
   scratch-of after e = cc
 
 -- the header says all, and costs nothing
-pub header-alone : (kind known : Kind) (arg : ℕ) (next : Place) (budget : Budget) (atom : Atom) → kind ≡ known →
-    chargeOf known arg ≡ 0 → Forms.known known arg ≡ true → atom ≡ atomOf kind arg N.None →
-    A.Read next budget atom ≡ judged known arg next budget (headerTaken known arg next N.None)
+pub header-alone : (kind known : Kind) (arg : ℕ) (first next : Place) (budget : Budget) (atom : Atom) →
+    kind ≡ known → chargeOf known arg ≡ 0 → Forms.known known arg ≡ true →
+    atom ≡ atomOf kind arg (placesOf first next next) N.None →
+    A.Read next budget atom ≡ judged known arg next budget (headerTaken known arg first next N.None)
 unfolding judged
-header-alone kind known arg next budget atom k c o a = cc (free budget)
+header-alone kind known arg first next budget atom k c o a = cc (free budget)
 
 -- Int and UInt have one arm, which the tag leads to
 abbrev OfIntegers : Kind → Type 0
@@ -237,13 +246,13 @@ module _ (kind : Kind) (h : OfIntegers kind) where
   integer-kind = two-kinds (λ k. integerKind k ≡ true) refl refl kind h
 
   module _ (way : Way) (s : List ℕ) (arg : ℕ) (next : Place) (budget : Budget) (scratch : List ℕ) where
-    pub integer-body : (answer : AtomAnswer) →
-        answer ≡ judged kind arg next budget (integerTaken way s kind arg next) →
-        answer ≡ atomAfter way s kind arg next budget scratch
-    integer-body answer e =
+    pub integer-body : (first : Place) (answer : AtomAnswer) →
+        answer ≡ judged kind arg next budget (integerTaken way s kind arg first next) →
+        answer ≡ atomAfter way s kind arg first next budget scratch
+    integer-body first answer e =
         e
-        ∙ two-kinds (λ k. judged k arg next budget (integerTaken way s k arg next)
-        ≡ atomAfter way s k arg next budget scratch) refl refl kind h
+        ∙ two-kinds (λ k. judged k arg next budget (integerTaken way s k arg first next)
+        ≡ atomAfter way s k arg first next budget scratch) refl refl kind h
 
     pub integer-scratch : scratch ≡ scratchAfter way s kind arg next budget scratch
     integer-scratch = two-kinds (λ k. scratch ≡ scratchAfter way s k arg next budget scratch) refl refl kind h
@@ -254,10 +263,11 @@ pub ruleset body-ends = (body-of, scratch-of, header-alone, integer-kind, intege
 module _ (way : Way) (s : List ℕ) (place : ℕ) (got : HeaderAnswer) (g : got ≡ headerRead way s place) where
   module _ (budget : Budget) (scratch : List ℕ) (next : Place) where
     module _ (kind : Kind) (arg : ℕ) (e : got ≡ H.Read next kind arg) where
-      pub header-read : (answer : AtomAnswer) → answer ≡ atomAfter way s kind arg next budget scratch →
+      pub header-read : (first : ℕ) (answer : AtomAnswer) → first ≡ placeIn (length s) place →
+          answer ≡ atomAfter way s kind arg (record { 0 = first }) next budget scratch →
           answer ≡ atomRead way s place budget scratch
       unfolding atomRead
-      header-read answer a = cc
+      header-read first answer f a = cc
 
       pub header-read-scratch : (after : List ℕ) → after ≡ scratchAfter way s kind arg next budget scratch →
           after ≡ atomScratch way s place budget scratch

@@ -27,7 +27,7 @@ use Rattle.types.specs.declared.AtomAnswer.the-variants as A
 use Rattle.little.specs.Le.{numberAt}
 use Rattle.integer.specs.Integers.{integerKind, integerOf, integerBody}
 use Rattle.float.specs.Floats.{floatOf, floatBody}
-use Rattle.atom.specs.Atoms.{atomOf, judged, integerAtom, floatAtom, integerTaken, floatTaken}
+use Rattle.atom.specs.Atoms.{atomTaken, judged, integerAtom, floatAtom, integerTaken, floatTaken}
 use Rattle.atom.proofs.Answers.{same-judged, integer-known, integer-long, integer-costs, integer-unknown}
 
 pub record NumberForm : Type 0 where
@@ -61,16 +61,16 @@ pub float-means : (arg : ℕ) → Means floats arg
 float-means arg = record { knows = refl; long = refl; costs = refl; refuses = refl }
 
 -- what is taken of its bytes, by the end of input
-abbrev pub numberTaken : NumberForm → Way → List ℕ → ℕ → Place → Budget → AtomAnswer
-numberTaken n way s arg next rest =
+abbrev pub numberTaken : NumberForm → Way → List ℕ → ℕ → Place → Place → Budget → AtomAnswer
+numberTaken n way s arg first next rest =
     upTo way (length s) (next .0 + bodyLength (n .kind) arg)
-    (λ p. A.Read (record { 0 = p }) rest (atomOf (n .kind) arg
-    (n .nucleus (bodyLength (n .kind) arg) (numberAt (bodyLength (n .kind) arg) s (next .0)))))
+    (λ p. atomTaken (n .kind) arg first next rest (record { 0 = p })
+    (n .nucleus (bodyLength (n .kind) arg) (numberAt (bodyLength (n .kind) arg) s (next .0))))
     (A.Refused (record { 0 = length s }) rest R.Eof)
 
 -- and the charge and the count before that
-unfoldable pub numberAfter : NumberForm → Way → List ℕ → ℕ → Place → Budget → AtomAnswer
-numberAfter n way s arg next budget = judged (n .kind) arg next budget (numberTaken n way s arg next)
+unfoldable pub numberAfter : NumberForm → Way → List ℕ → ℕ → Place → Place → Budget → AtomAnswer
+numberAfter n way s arg first next budget = judged (n .kind) arg next budget (numberTaken n way s arg first next)
 
 -- so the definitions have it
 through : {X Y : Type 0} (f : X → Y) (t e : Bool) (whole eof filled : X) →
@@ -79,33 +79,33 @@ through f true e whole eof filled = refl
 through f false true whole eof filled = refl
 through f false false whole eof filled = refl
 
-module _ (way : Way) (s : List ℕ) (arg : ℕ) (next : Place) where
+module _ (way : Way) (s : List ℕ) (arg : ℕ) (first next : Place) where
   module _ (kind : Kind) where
     pub integer-taken : (rest : Budget) →
-        integerTaken way s kind arg next rest ≡ numberTaken (integers kind) way s arg next rest
+        integerTaken way s kind arg first next rest ≡ numberTaken (integers kind) way s arg first next rest
     unfolding integerBody
     integer-taken rest =
         let n = bodyLength kind arg in
         let found : ℕ → IntegerAnswer = λ p. IA.Read (record { 0 = p }) (integerOf kind n (numberAt n s (next .0))) in
-        through (integerAtom kind arg rest) (leb (next .0 + n) (length s)) (exact way) (found (next .0 + n))
+        through (integerAtom kind arg first next rest) (leb (next .0 + n) (length s)) (exact way) (found (next .0 + n))
         (IA.Refused (record { 0 = length s }) R.Eof) (found (length s))
 
     pub integer-number : (budget : Budget) →
-        judged kind arg next budget (integerTaken way s kind arg next)
-        ≡ numberAfter (integers kind) way s arg next budget
+        judged kind arg next budget (integerTaken way s kind arg first next)
+        ≡ numberAfter (integers kind) way s arg first next budget
     unfolding numberAfter
     integer-number budget = same-judged kind arg next budget _ _ integer-taken
 
-  pub float-taken : (rest : Budget) → floatTaken way s arg next rest ≡ numberTaken floats way s arg next rest
+  pub float-taken : (rest : Budget) → floatTaken way s arg first next rest ≡ numberTaken floats way s arg first next rest
   unfolding floatBody
   float-taken rest =
       let n = bodyLength K.Float arg in
       let bits = numberAt n s (next .0) in
       let found : ℕ → FloatAnswer = λ p. FA.Read (record { 0 = p }) (floatOf n bits) bits in
-      through (floatAtom arg rest) (leb (next .0 + n) (length s)) (exact way) (found (next .0 + n))
+      through (floatAtom arg first next rest) (leb (next .0 + n) (length s)) (exact way) (found (next .0 + n))
       (FA.Refused (record { 0 = length s }) R.Eof) (found (length s))
 
   pub float-number : (budget : Budget) →
-      judged K.Float arg next budget (floatTaken way s arg next) ≡ numberAfter floats way s arg next budget
+      judged K.Float arg next budget (floatTaken way s arg first next) ≡ numberAfter floats way s arg first next budget
   unfolding numberAfter
   float-number budget = same-judged K.Float arg next budget _ _ float-taken

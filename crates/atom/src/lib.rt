@@ -6,6 +6,7 @@ ghost use mathlib.Core.List.{[]};
 ghost use Prim.Native.Nat.{_≤_, _<_, _+_, _-_, _^_};
 ghost use lib.ListN.{length};
 ghost use Rattle.types.specs.Ways.{unnamedWay};
+ghost use Rattle.types.specs.Counters.{placesOf};
 ghost use Rattle.types.specs.Forms.{countOf, numberCharge};
 ghost use Rattle.types.specs.declared.Kind.the-variants as K;
 ghost use Rattle.types.specs.declared.Nucleus.the-variants as N;
@@ -25,6 +26,7 @@ use types::Kind;
 use types::Mark;
 use types::Nucleus;
 use types::Place;
+use types::Places;
 use types::Refusal;
 use types::Special;
 use types::SpecialAnswer;
@@ -76,47 +78,85 @@ fn nucleus_of(special: Special) -> Nucleus
     }
 }
 
+// Where an atom stands: its first place, the place where its body starts and the place after it.
+fn places_of(first: Place, body: Place, after: Place) -> Places
+    ensures { λ r. ⌜ r ≡ placesOf first body after ⌝ }
+{
+    Places { first, body, after }
+}
+
 // Atoms put together, by kind; that of a special is in `read_special`.
-fn header_atom(kind: Kind, arg: u64) -> Atom
-    ensures { λ r. ⌜ r ≡ atomOf kind arg N.None ⌝ }
+fn header_atom(kind: Kind, arg: u64, first: Place, next: Place) -> Atom
+    ensures { λ r. ⌜ r ≡ atomOf kind arg (placesOf first next next) N.None ⌝ }
 {
     let nucleus = Nucleus::None;
-    Atom { kind, arg, nucleus }
+    let places = places_of(first, next, next);
+    Atom {
+        kind,
+        arg,
+        places,
+        nucleus,
+    }
 }
 
-fn integer_atom(kind: Kind, arg: u64, value: Integer) -> Atom
-    ensures { λ r. ⌜ r ≡ atomOf kind arg (N.Integer value) ⌝ }
+fn integer_atom(kind: Kind, arg: u64, places: Places, value: Integer) -> Atom
+    ensures { λ r. ⌜ r ≡ atomOf kind arg places (N.Integer value) ⌝ }
 {
     let nucleus = Nucleus::Integer(value);
-    Atom { kind, arg, nucleus }
+    Atom {
+        kind,
+        arg,
+        places,
+        nucleus,
+    }
 }
 
-fn float_atom(arg: u64, bytes: u64, bits: u64) -> Atom
+fn float_atom(arg: u64, places: Places, bytes: u64, bits: u64) -> Atom
     requires { ⌜ bits < 256 ^ bytes ⌝ }
-    ensures { λ r. ⌜ r ≡ atomOf K.Float arg (N.Float (floatOf bytes bits) bits) ⌝ }
+    ensures { λ r. ⌜ r ≡ atomOf K.Float arg places (N.Float (floatOf bytes bits) bits) ⌝ }
 {
     let nucleus = Nucleus::Float(float::float_of(bytes, bits), bits);
     let kind = Kind::Float;
-    Atom { kind, arg, nucleus }
+    Atom {
+        kind,
+        arg,
+        places,
+        nucleus,
+    }
 }
 
-fn bytes_atom(arg: u64, mark: Mark) -> Atom
-    ensures { λ r. ⌜ r ≡ atomOf K.Bytes arg (N.Bytes mark) ⌝ }
+fn bytes_atom(arg: u64, places: Places, mark: Mark) -> Atom
+    ensures { λ r. ⌜ r ≡ atomOf K.Bytes arg places (N.Bytes mark) ⌝ }
 {
     let nucleus = Nucleus::Bytes(mark);
     let kind = Kind::Bytes;
-    Atom { kind, arg, nucleus }
+    Atom {
+        kind,
+        arg,
+        places,
+        nucleus,
+    }
 }
 
 // A special, once its header is read.
-fn read_special(arg: u64, next: Place, budget: Budget) -> AtomAnswer
-    ensures { λ r. ⌜ r ≡ judged K.Special arg next budget (specialTaken arg next) ⌝ }
+fn read_special(arg: u64, first: Place, next: Place, budget: Budget) -> AtomAnswer
+    ensures { λ r. ⌜ r ≡ judged K.Special arg next budget (specialTaken arg first next) ⌝ }
 {
     match Special::try_from(arg) {
         SpecialAnswer::Known(special) => {
             let nucleus = nucleus_of(special);
             let kind = Kind::Special;
-            return AtomAnswer::Read(next, budget, Atom { kind, arg, nucleus });
+            let places = places_of(first, next, next);
+            return AtomAnswer::Read(
+                next,
+                budget,
+                Atom {
+                    kind,
+                    arg,
+                    places,
+                    nucleus,
+                },
+            );
         }
         SpecialAnswer::Refused(refusal) => {
             return AtomAnswer::Refused(next, budget, refusal);
@@ -129,12 +169,13 @@ fn read_integer(
     source: &[u8],
     kind: Kind,
     arg: u64,
+    first: Place,
     next: Place,
     budget: Budget,
     way: Way,
 ) -> AtomAnswer
     requires { ⌜ (next .0 ≤ length (now source)) × (integerKind kind ≡ true) ⌝ }
-    ensures { λ r. ⌜ r ≡ judged kind arg next budget (integerTaken way (now (source .entry)) kind arg next) ⌝ }
+    ensures { λ r. ⌜ r ≡ judged kind arg next budget (integerTaken way (now (source .entry)) kind arg first next) ⌝ }
 {
     let bytes = count_of(arg);
     let BudgetAnswer::Left(rest) = update_budget(budget, in_memory_int_size(bytes)) else {
@@ -145,21 +186,32 @@ fn read_integer(
         let count = bytes as usize;
         if count <= source.len() - at {
             let value = integer::integer_at(kind, source, at, bytes);
-            return AtomAnswer::Read(Place(at + count), rest, integer_atom(kind, arg, value));
+            let after = Place(at + count);
+            let places = places_of(first, next, after);
+            return AtomAnswer::Read(after, rest, integer_atom(kind, arg, places, value));
         }
+        let end = Place(source.len());
         if way.is_exact() {
-            return AtomAnswer::Refused(Place(source.len()), rest, Refusal::Eof);
+            return AtomAnswer::Refused(end, rest, Refusal::Eof);
         }
         let value = integer::filled_integer(kind, source, at, bytes);
-        return AtomAnswer::Read(Place(source.len()), rest, integer_atom(kind, arg, value));
+        let places = places_of(first, next, end);
+        return AtomAnswer::Read(end, rest, integer_atom(kind, arg, places, value));
     }
     AtomAnswer::Refused(next, rest, Refusal::unsupported(kind, bytes))
 }
 
 // A float, once its header is read. Its stored bits stand beside its value.
-fn read_float(source: &[u8], arg: u64, next: Place, budget: Budget, way: Way) -> AtomAnswer
+fn read_float(
+    source: &[u8],
+    arg: u64,
+    first: Place,
+    next: Place,
+    budget: Budget,
+    way: Way,
+) -> AtomAnswer
     requires { ⌜ next .0 ≤ length (now source) ⌝ }
-    ensures { λ r. ⌜ r ≡ judged K.Float arg next budget (floatTaken way (now (source .entry)) arg next) ⌝ }
+    ensures { λ r. ⌜ r ≡ judged K.Float arg next budget (floatTaken way (now (source .entry)) arg first next) ⌝ }
 {
     let bytes = count_of(arg);
     let BudgetAnswer::Left(rest) = update_budget(budget, in_memory_int_size(bytes)) else {
@@ -170,13 +222,17 @@ fn read_float(source: &[u8], arg: u64, next: Place, budget: Budget, way: Way) ->
         let count = bytes as usize;
         if count <= source.len() - at {
             let bits = float::stored_bits(source, at, bytes);
-            return AtomAnswer::Read(Place(at + count), rest, float_atom(arg, bytes, bits));
+            let after = Place(at + count);
+            let places = places_of(first, next, after);
+            return AtomAnswer::Read(after, rest, float_atom(arg, places, bytes, bits));
         }
+        let end = Place(source.len());
         if way.is_exact() {
-            return AtomAnswer::Refused(Place(source.len()), rest, Refusal::Eof);
+            return AtomAnswer::Refused(end, rest, Refusal::Eof);
         }
         let bits = float::filled_bits(source, at, bytes);
-        return AtomAnswer::Read(Place(source.len()), rest, float_atom(arg, bytes, bits));
+        let places = places_of(first, next, end);
+        return AtomAnswer::Read(end, rest, float_atom(arg, places, bytes, bits));
     }
     AtomAnswer::Refused(next, rest, Refusal::unsupported(Kind::Float, bytes))
 }
@@ -185,13 +241,14 @@ fn read_float(source: &[u8], arg: u64, next: Place, budget: Budget, way: Way) ->
 fn read_bytes(
     source: &[u8],
     arg: u64,
+    first: Place,
     next: Place,
     budget: Budget,
     scratch: &mut [u8],
     way: Way,
 ) -> AtomAnswer
     ensures { λ r. ⌜ r ≡
-        judged K.Bytes arg next budget (bytesTaken way (now (source .entry)) arg next (now (scratch .entry))) ⌝ }
+        judged K.Bytes arg next budget (bytesTaken way (now (source .entry)) arg first next (now (scratch .entry))) ⌝ }
     ensures { λ r. ⌜ now (scratch .exit) ≡
         scratchAfter way (now (source .entry)) K.Bytes arg next budget (now (scratch .entry)) ⌝ }
 {
@@ -200,7 +257,8 @@ fn read_bytes(
     };
     match reader::buffered_read_bytes(source, next, arg, scratch, way) {
         BytesAnswer::Read(place, mark) => {
-            return AtomAnswer::Read(place, rest, bytes_atom(arg, mark));
+            let places = places_of(first, next, place);
+            return AtomAnswer::Read(place, rest, bytes_atom(arg, places, mark));
         }
         BytesAnswer::Refused(place, refusal) => {
             return AtomAnswer::Refused(place, rest, refusal);
@@ -213,24 +271,29 @@ fn read_body(
     source: &[u8],
     kind: Kind,
     arg: u64,
+    first: Place,
     next: Place,
     budget: Budget,
     scratch: &mut [u8],
     way: Way,
 ) -> AtomAnswer
     requires { ⌜ next .0 ≤ length (now source) ⌝ }
-    ensures { λ r. ⌜ r ≡ atomAfter way (now (source .entry)) kind arg next budget (now (scratch .entry)) ⌝ }
+    ensures { λ r. ⌜ r ≡ atomAfter way (now (source .entry)) kind arg first next budget (now (scratch .entry)) ⌝ }
     ensures { λ r. ⌜ now (scratch .exit) ≡
         scratchAfter way (now (source .entry)) kind arg next budget (now (scratch .entry)) ⌝ }
 {
     match kind {
-        Kind::Sequence => return AtomAnswer::Read(next, budget, header_atom(kind, arg)),
-        Kind::Map => return AtomAnswer::Read(next, budget, header_atom(kind, arg)),
-        Kind::Symbol => return AtomAnswer::Read(next, budget, header_atom(kind, arg)),
-        Kind::Special => return read_special(arg, next, budget),
-        Kind::Int | Kind::UInt => return read_integer(source, kind, arg, next, budget, way),
-        Kind::Float => return read_float(source, arg, next, budget, way),
-        Kind::Bytes => return read_bytes(source, arg, next, budget, scratch, way),
+        Kind::Sequence => return AtomAnswer::Read(
+            next,
+            budget,
+            header_atom(kind, arg, first, next),
+        ),
+        Kind::Map => return AtomAnswer::Read(next, budget, header_atom(kind, arg, first, next)),
+        Kind::Symbol => return AtomAnswer::Read(next, budget, header_atom(kind, arg, first, next)),
+        Kind::Special => return read_special(arg, first, next, budget),
+        Kind::Int | Kind::UInt => return read_integer(source, kind, arg, first, next, budget, way),
+        Kind::Float => return read_float(source, arg, first, next, budget, way),
+        Kind::Bytes => return read_bytes(source, arg, first, next, budget, scratch, way),
     }
 }
 
@@ -248,7 +311,8 @@ pub fn read_atom_by(
 {
     match header::read_atom_header(source, place, way) {
         HeaderAnswer::Read(next, kind, arg) => {
-            return read_body(source, kind, arg, next, budget, scratch, way);
+            let first = Place(place.within(source.len()));
+            return read_body(source, kind, arg, first, next, budget, scratch, way);
         }
         HeaderAnswer::Refused(end, refusal) => {
             return AtomAnswer::Refused(end, budget, refusal);

@@ -32,7 +32,7 @@ use Rattle.types.specs.declared.HeaderAnswer.{HeaderAnswer}
 use Rattle.types.specs.declared.HeaderAnswer.the-variants as H
 use Rattle.types.specs.declared.AtomAnswer.{AtomAnswer}
 use Rattle.types.specs.declared.AtomAnswer.the-variants as A
-use Rattle.types.proofs.Places.{place-same}
+use Rattle.types.proofs.Counters.{place-same}
 use Rattle.header.specs.Header.{headerRead, headerFrom, headerLength, headerKind, headerArgument}
 use Rattle.reader.specs.Strings.{stringAnswer, stringScratch, stringMark, scratchNeeded, startOf}
 use Rattle.reader.proofs.Delivered.{Outcome, whole, cut, cramped, outcome, string-read, string-eof, string-no-room}

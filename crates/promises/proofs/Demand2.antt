@@ -19,7 +19,7 @@ use Rattle.types.specs.declared.Place.{Place}
 use Rattle.types.specs.declared.Budget.{Budget}
 use Rattle.types.specs.declared.Nucleus.the-variants as N
 use Rattle.types.specs.declared.AtomAnswer.the-variants as A
-use Rattle.types.proofs.Places.{place-same}
+use Rattle.types.proofs.Counters.{place-same}
 use Rattle.types.proofs.Specials.{special-small}
 use Rattle.header.specs.Header.{headerBytes, headerFrom, headerArgument}
 use Rattle.header.proofs.RoundTrip.{header-back, back}

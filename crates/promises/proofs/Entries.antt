@@ -46,7 +46,7 @@ use Rattle.promises.specs.Rows.{endOf}
 use Rattle.promises.specs.Entries.{There, Cut, onward, headerEnd, rawCount, KindRows, SpecialRows, HeaderRows}
 use Rattle.promises.specs.Entries.{SignatureRows, BudgetRows, IntegerRows, FloatRows, StringRows, RawRows}
 use Rattle.promises.specs.Entries.{WriterRows, HeldRows, LengthRows}
-use Rattle.types.proofs.Places.{place-same}
+use Rattle.types.proofs.Counters.{place-same}
 use Rattle.types.proofs.Specials.{special-unknown}
 use Rattle.promises.proofs.Demand1.{unknown-kind}
 use Rattle.promises.proofs.Held.{outside, integer-told, float-told, string-copied, raw-length, raw-place}

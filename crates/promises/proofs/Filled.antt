@@ -27,7 +27,7 @@ use Rattle.types.specs.declared.FloatAnswer.the-variants as FA
 use Rattle.types.specs.declared.BudgetAnswer.the-variants as BA
 use Rattle.types.specs.declared.AtomAnswer.{AtomAnswer}
 use Rattle.types.specs.declared.AtomAnswer.the-variants as A
-use Rattle.types.proofs.Places.{place-within}
+use Rattle.types.proofs.Counters.{place-within}
 use Rattle.header.specs.Header.{headerFrom, headerKind, headerLength, headerArgument, laterCount, laterValue}
 use Rattle.little.specs.Le.{numberAt}
 use Rattle.integer.specs.Integers.{integerKind, integerFrom, integerBody}

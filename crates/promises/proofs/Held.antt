@@ -17,7 +17,7 @@ use Rattle.types.specs.Counters.{placeIn}
 use Rattle.types.specs.declared.Kind.{Kind}
 use Rattle.types.specs.declared.Way.{Way}
 use Rattle.types.specs.declared.Way.the-variants as W
-use Rattle.types.proofs.Places.{place-within, place-same}
+use Rattle.types.proofs.Counters.{place-within, place-same}
 use Rattle.lent.specs.Lent.{copiedOver}
 use Rattle.reader.specs.Strings.{startOf, stringScratch, scratchNeeded}
 use Rattle.reader.specs.Raw.{rawBytes}

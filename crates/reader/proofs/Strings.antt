@@ -7,7 +7,7 @@ use lib.ListN.{length, drop, length-drop}
 use lib.Seq.{length-take-le}
 use borrow.Author.Tests.{le-ltb, lt-ltb}
 use Rattle.types.specs.Refusals.{noRoom}
-use Rattle.types.proofs.Places.{place-within, place-same}
+use Rattle.types.proofs.Counters.{place-within, place-same}
 use Rattle.types.specs.declared.BytesAnswer.the-variants as B
 use Rattle.lent.proofs.Stores.{content-room, content-short}
 use Rattle.reader.specs.Strings.{startOf, stringOf, stringEof, lentMark, copiedMark, stringRead, lentString, copiedString, copiedScratch}

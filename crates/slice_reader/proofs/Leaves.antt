@@ -8,7 +8,7 @@ use lib.ListN.{length, drop}
 use borrow.Author.Tests.{le-leb}
 use Rattle.types.specs.Counters.{placeIn}
 use Rattle.types.specs.Forms.{listed, allowedCount}
-use Rattle.types.proofs.Places.{place-same}
+use Rattle.types.proofs.Counters.{place-same}
 use Rattle.types.specs.declared.Kind.{Kind}
 use Rattle.types.specs.declared.Kind.the-variants as K
 use Rattle.integer.specs.Integers.{integerKind, integerFrom, integerBody}

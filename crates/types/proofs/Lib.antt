@@ -1,6 +1,6 @@
 pub mod Ends
 pub mod Ways
-pub mod Places
+pub mod Counters
 pub mod Specials
 pub mod Forms
 pub mod Values
