@@ -3,7 +3,7 @@
 use oracle::wire::{Reading, Way};
 
 use crate::call::{Call, Room};
-use crate::expected::{Judge, Said};
+use crate::expected::{Judge, Said, WORDS};
 use crate::lent::Lent;
 use crate::proved::{ask, halves, Slice, Slices};
 
@@ -36,7 +36,7 @@ impl Checker {
     }
 
     fn read_back(&mut self, call: &Call<'_>, written: &[u8]) {
-        let room = Room { words: 8, bytes: written.len() };
+        let room = Room { words: WORDS, bytes: written.len() };
         for way in Way::ALL {
             let reading = Reading { way, place: 0, source: written };
             let read = match call {
@@ -53,7 +53,7 @@ impl Checker {
 
     /// One atom after another, past refused ones too, until the end or until the place stays.
     fn walk(&mut self, mut budget: u64, way: Way, source: &[u8], room: Room) {
-        let room = Room { words: room.words.max(8), ..room };
+        let room = Room { words: room.words.max(WORDS), ..room };
         let mut place = 0;
         for _ in 0..LONGEST_WALK {
             let call = Call::ReadAtom(budget, Reading { way, place, source });
@@ -70,8 +70,8 @@ impl Checker {
     fn compare(&mut self, call: &Call<'_>, room: Room) -> Option<Said> {
         let full = self.judge.expected(call)?;
         let fits = self.with_room(call, full, room.bytes);
-        let short = room.words < 8;
-        let said = if short { Said { number: NO_ROOM, words: [0; 8], bytes: vec![] } } else { fits };
+        let short = room.words < WORDS;
+        let said = if short { Said::new(NO_ROOM, &[], &[]) } else { fits };
         let words: Vec<u8> = said.words.iter().flat_map(|word| word.to_ne_bytes()).collect();
         let first_words = if short { &[][..] } else { &words };
 
@@ -103,12 +103,13 @@ impl Checker {
         if said.bytes.len() <= room {
             return said;
         }
-        let mut words = [0; 8];
-        if let Call::ReadAtom(_, reading) = *call {
-            words[0] = self.judge.header(reading).words[0];
-            words[1] = said.words[1];
+        match *call {
+            Call::ReadAtom(_, reading) => {
+                let past_header = self.judge.header(reading).words[0];
+                Said::new(NO_ROOM, &[past_header, said.words[1]], &[])
+            }
+            _ => Said::new(NO_ROOM, &[], &[]),
         }
-        Said { number: NO_ROOM, words, bytes: vec![] }
     }
 
     fn report(&mut self, call: &Call<'_>, room: Room, number: u64, said: &Said) -> ! {

@@ -170,8 +170,8 @@ pub extern "C" fn loop_read(
     0
 }
 
-// Runs over a file. Answers a refusal's number or 0, and the atoms, the place, the budget, where the refused atom starts,
-// and the last atom's places.
+// Runs over a file. Answers a refusal's number or 0, and the atoms, the place, the budget, where the refused atom
+// starts, and the last atom's places.
 #[no_mangle]
 pub extern "C" fn loop_run(source: &[u8], budget: u64, out: &mut [u64]) -> u64 {
     match dictionary::run(source, Budget(budget)) {
@@ -188,8 +188,8 @@ pub extern "C" fn loop_run(source: &[u8], budget: u64, out: &mut [u64]) -> u64 {
     }
 }
 
-// Tallies a file. Answers a refusal's number or 0, and what the file holds or where the refused atom starts, and the last
-// atom's places.
+// Tallies a file. Answers a refusal's number or 0, and what the file holds or where the refused atom starts, and the
+// last atom's places.
 #[no_mangle]
 pub extern "C" fn loop_tally(source: &[u8], out: &mut [u64]) -> u64 {
     match dictionary::tally(source) {

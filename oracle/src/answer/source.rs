@@ -39,8 +39,8 @@ pub fn place<'a>(reader: &impl Source<'a>, reading: &Reading<'a>) -> u64 {
     (reading.source.len() - reader.left()) as u64
 }
 
-/// Reads an atom by a reader that stands where the reading starts. Its places are where the readers stand: this one before
-/// the read and after it, and another, at the same start, after the header alone.
+/// Reads an atom by a reader that stands where the reading starts. Its places are where the readers stand: this one
+/// before the read and after it, and another, at the same start, after the header alone.
 pub fn read_placed<'a>(
     reader: &mut impl Source<'a>,
     reading: &Reading<'a>,
