@@ -51,13 +51,19 @@ impl Checker {
         }
     }
 
-    /// One atom after another, past refused ones too, until the end or until the place stays.
+    /// One atom after another, past refused ones too, until the end or until the place stays. The three places of each
+    /// rise or stay level.
     fn walk(&mut self, mut budget: u64, way: Way, source: &[u8], room: Room) {
         let room = Room { words: room.words.max(WORDS), ..room };
         let mut place = 0;
+        let mut last = vec![0; 3];
         for _ in 0..LONGEST_WALK {
             let call = Call::ReadAtom(budget, Reading { way, place, source });
             let said = self.compare(&call, room).expect("every atom has an answer");
+            if said.number == 0 {
+                assert!(last.iter().zip(said.places()).all(|(old, new)| old <= new), "the places fall: {call:?}");
+                last = said.places().to_vec();
+            }
             let stays = said.words[0] == place;
             (place, budget) = (said.words[0], said.words[1]);
             if stays || place >= source.len() as u64 {

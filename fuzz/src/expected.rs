@@ -36,6 +36,11 @@ impl Said {
         self
     }
 
+    /// The three places that it says.
+    pub fn places(&self) -> &[u64] {
+        &self.words[FIRST..FIRST + 3]
+    }
+
     fn refused(refusal: Refusal) -> Self {
         Self::new(refusal.number(), &data(refusal), &[])
     }
