@@ -79,12 +79,12 @@ pub ruleset charge-ends =
 
 -- a special, known and not; it costs nothing
 module _ (arg : ℕ) (first next : Place) (budget : Budget) (got : SpecialAnswer) (g : got ≡ specialFrom arg) where
-  pub special-known : (special : Special) (places : Places) (nucleus : Nucleus) → got ≡ SA.Known special →
-      nucleus ≡ specialNucleus special → places ≡ placesOf first next next →
-      A.Read next budget (atomOf K.Special arg places nucleus)
-      ≡ judged K.Special arg next budget (specialTaken arg first next)
+  pub special-known : (special : Special) (nucleus : Nucleus) (atom : Atom) →
+      atom ≡ atomOf K.Special arg (placesOf first next next) nucleus → got ≡ SA.Known special →
+      nucleus ≡ specialNucleus special →
+      A.Read next budget atom ≡ judged K.Special arg next budget (specialTaken arg first next)
   unfolding judged
-  special-known special places nucleus e n p = cc (free budget, special-below arg special (sym g ∙ e))
+  special-known special nucleus atom a e n = cc (free budget, special-below arg special (sym g ∙ e))
 
   pub special-unknown : (r : Refusal) → got ≡ SA.Refused r →
       A.Refused next budget r ≡ judged K.Special arg next budget (specialTaken arg first next)
@@ -96,15 +96,15 @@ module _ (arg : ℕ) (first next : Place) (budget : Budget) (got : SpecialAnswer
 pub ruleset special-ends = (special-known, special-unknown, needs)
 
 -- the atom of a number: what it holds was made before
-pub integer-held : (kind : Kind) (arg count bits : ℕ) (made places : Places) (value : Integer) (atom : Atom) →
-    value ≡ integerOf kind count bits → made ≡ places → atom ≡ atomOf kind arg made (N.Integer value) →
+pub integer-held : (kind : Kind) (arg count bits : ℕ) (places : Places) (value : Integer) (atom : Atom) →
+    value ≡ integerOf kind count bits → atom ≡ atomOf kind arg places (N.Integer value) →
     atom ≡ atomOf kind arg places (N.Integer (integerOf kind count bits))
-integer-held kind arg count bits made places value atom v p a = cc
+integer-held kind arg count bits places value atom v a = cc
 
-pub float-held : (arg count bits stored : ℕ) (made places : Places) (atom : Atom) → stored ≡ bits → made ≡ places →
-    atom ≡ atomOf K.Float arg made (N.Float (floatOf count stored) stored) →
+pub float-held : (arg count bits stored : ℕ) (places : Places) (atom : Atom) → stored ≡ bits →
+    atom ≡ atomOf K.Float arg places (N.Float (floatOf count stored) stored) →
     atom ≡ atomOf K.Float arg places (N.Float (floatOf count bits) bits)
-float-held arg count bits stored made places atom v p a = cc
+float-held arg count bits stored places atom v a = cc
 
 pub float-made : (arg count bits : ℕ) (places : Places) (value : Float) → value ≡ floatOf count bits →
     atomOf K.Float arg places (N.Float value bits) ≡ atomOf K.Float arg places (N.Float (floatOf count bits) bits)
@@ -190,11 +190,11 @@ module _ (way : Way) (s : List ℕ) (arg : ℕ) (first next : Place) (budget : B
   -- it does not: the string is read, or refused, and scratch is as the string leaves it
   module _ (rest : Budget) (left : paid ≡ BA.Left rest) where
     module _ (got : BytesAnswer) (g : got ≡ stringAnswer way s (next .0) arg scratch) (place : Place) where
-      pub string-read : (mark : Mark) (places : Places) (atom : Atom) → got ≡ B.Read place mark →
-          places ≡ placesOf first next place → atom ≡ atomOf K.Bytes arg places (N.Bytes mark) →
+      pub string-read : (mark : Mark) (atom : Atom) → got ≡ B.Read place mark →
+          atom ≡ atomOf K.Bytes arg (placesOf first next place) (N.Bytes mark) →
           A.Read place rest atom ≡ judged K.Bytes arg next budget (bytesTaken way s arg first next scratch)
       unfolding judged
-      string-read mark places atom e m a = cc
+      string-read mark atom e a = cc
 
       pub string-refused : (r : Refusal) → got ≡ B.Refused place r →
           A.Refused place rest r ≡ judged K.Bytes arg next budget (bytesTaken way s arg first next scratch)

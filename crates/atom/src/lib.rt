@@ -78,19 +78,15 @@ fn nucleus_of(special: Special) -> Nucleus
     }
 }
 
-// Where an atom stands: its first place, the place where its body starts and the place after it.
-fn places_of(first: Place, body: Place, after: Place) -> Places
-    ensures { λ r. ⌜ r ≡ placesOf first body after ⌝ }
+// Atoms put together, by kind, with their places.
+fn header_atom(kind: Kind, arg: u64, first: Place, next: Place, nucleus: Nucleus) -> Atom
+    ensures { λ r. ⌜ r ≡ atomOf kind arg (placesOf first next next) nucleus ⌝ }
 {
-    Places { first, body, after }
-}
-
-// Atoms put together, by kind; that of a special is in `read_special`.
-fn header_atom(kind: Kind, arg: u64, first: Place, next: Place) -> Atom
-    ensures { λ r. ⌜ r ≡ atomOf kind arg (placesOf first next next) N.None ⌝ }
-{
-    let nucleus = Nucleus::None;
-    let places = places_of(first, next, next);
+    let places = Places {
+        first,
+        body: next,
+        after: next,
+    };
     Atom {
         kind,
         arg,
@@ -99,10 +95,22 @@ fn header_atom(kind: Kind, arg: u64, first: Place, next: Place) -> Atom
     }
 }
 
-fn integer_atom(kind: Kind, arg: u64, places: Places, value: Integer) -> Atom
-    ensures { λ r. ⌜ r ≡ atomOf kind arg places (N.Integer value) ⌝ }
+fn integer_atom(
+    kind: Kind,
+    arg: u64,
+    first: Place,
+    next: Place,
+    after: Place,
+    value: Integer,
+) -> Atom
+    ensures { λ r. ⌜ r ≡ atomOf kind arg (placesOf first next after) (N.Integer value) ⌝ }
 {
     let nucleus = Nucleus::Integer(value);
+    let places = Places {
+        first,
+        body: next,
+        after,
+    };
     Atom {
         kind,
         arg,
@@ -111,12 +119,17 @@ fn integer_atom(kind: Kind, arg: u64, places: Places, value: Integer) -> Atom
     }
 }
 
-fn float_atom(arg: u64, places: Places, bytes: u64, bits: u64) -> Atom
+fn float_atom(arg: u64, first: Place, next: Place, after: Place, bytes: u64, bits: u64) -> Atom
     requires { ⌜ bits < 256 ^ bytes ⌝ }
-    ensures { λ r. ⌜ r ≡ atomOf K.Float arg places (N.Float (floatOf bytes bits) bits) ⌝ }
+    ensures { λ r. ⌜ r ≡ atomOf K.Float arg (placesOf first next after) (N.Float (floatOf bytes bits) bits) ⌝ }
 {
     let nucleus = Nucleus::Float(float::float_of(bytes, bits), bits);
     let kind = Kind::Float;
+    let places = Places {
+        first,
+        body: next,
+        after,
+    };
     Atom {
         kind,
         arg,
@@ -125,11 +138,16 @@ fn float_atom(arg: u64, places: Places, bytes: u64, bits: u64) -> Atom
     }
 }
 
-fn bytes_atom(arg: u64, places: Places, mark: Mark) -> Atom
-    ensures { λ r. ⌜ r ≡ atomOf K.Bytes arg places (N.Bytes mark) ⌝ }
+fn bytes_atom(arg: u64, first: Place, next: Place, after: Place, mark: Mark) -> Atom
+    ensures { λ r. ⌜ r ≡ atomOf K.Bytes arg (placesOf first next after) (N.Bytes mark) ⌝ }
 {
     let nucleus = Nucleus::Bytes(mark);
     let kind = Kind::Bytes;
+    let places = Places {
+        first,
+        body: next,
+        after,
+    };
     Atom {
         kind,
         arg,
@@ -145,18 +163,8 @@ fn read_special(arg: u64, first: Place, next: Place, budget: Budget) -> AtomAnsw
     match Special::try_from(arg) {
         SpecialAnswer::Known(special) => {
             let nucleus = nucleus_of(special);
-            let kind = Kind::Special;
-            let places = places_of(first, next, next);
-            return AtomAnswer::Read(
-                next,
-                budget,
-                Atom {
-                    kind,
-                    arg,
-                    places,
-                    nucleus,
-                },
-            );
+            let atom = header_atom(Kind::Special, arg, first, next, nucleus);
+            return AtomAnswer::Read(next, budget, atom);
         }
         SpecialAnswer::Refused(refusal) => {
             return AtomAnswer::Refused(next, budget, refusal);
@@ -187,16 +195,16 @@ fn read_integer(
         if count <= source.len() - at {
             let value = integer::integer_at(kind, source, at, bytes);
             let after = Place(at + count);
-            let places = places_of(first, next, after);
-            return AtomAnswer::Read(after, rest, integer_atom(kind, arg, places, value));
+            let atom = integer_atom(kind, arg, first, next, after, value);
+            return AtomAnswer::Read(after, rest, atom);
         }
         let end = Place(source.len());
         if way.is_exact() {
             return AtomAnswer::Refused(end, rest, Refusal::Eof);
         }
         let value = integer::filled_integer(kind, source, at, bytes);
-        let places = places_of(first, next, end);
-        return AtomAnswer::Read(end, rest, integer_atom(kind, arg, places, value));
+        let atom = integer_atom(kind, arg, first, next, end, value);
+        return AtomAnswer::Read(end, rest, atom);
     }
     AtomAnswer::Refused(next, rest, Refusal::unsupported(kind, bytes))
 }
@@ -223,16 +231,16 @@ fn read_float(
         if count <= source.len() - at {
             let bits = float::stored_bits(source, at, bytes);
             let after = Place(at + count);
-            let places = places_of(first, next, after);
-            return AtomAnswer::Read(after, rest, float_atom(arg, places, bytes, bits));
+            let atom = float_atom(arg, first, next, after, bytes, bits);
+            return AtomAnswer::Read(after, rest, atom);
         }
         let end = Place(source.len());
         if way.is_exact() {
             return AtomAnswer::Refused(end, rest, Refusal::Eof);
         }
         let bits = float::filled_bits(source, at, bytes);
-        let places = places_of(first, next, end);
-        return AtomAnswer::Read(end, rest, float_atom(arg, places, bytes, bits));
+        let atom = float_atom(arg, first, next, end, bytes, bits);
+        return AtomAnswer::Read(end, rest, atom);
     }
     AtomAnswer::Refused(next, rest, Refusal::unsupported(Kind::Float, bytes))
 }
@@ -257,8 +265,8 @@ fn read_bytes(
     };
     match reader::buffered_read_bytes(source, next, arg, scratch, way) {
         BytesAnswer::Read(place, mark) => {
-            let places = places_of(first, next, place);
-            return AtomAnswer::Read(place, rest, bytes_atom(arg, places, mark));
+            let atom = bytes_atom(arg, first, next, place, mark);
+            return AtomAnswer::Read(place, rest, atom);
         }
         BytesAnswer::Refused(place, refusal) => {
             return AtomAnswer::Refused(place, rest, refusal);
@@ -283,13 +291,18 @@ fn read_body(
         scratchAfter way (now (source .entry)) kind arg next budget (now (scratch .entry)) ⌝ }
 {
     match kind {
-        Kind::Sequence => return AtomAnswer::Read(
-            next,
-            budget,
-            header_atom(kind, arg, first, next),
-        ),
-        Kind::Map => return AtomAnswer::Read(next, budget, header_atom(kind, arg, first, next)),
-        Kind::Symbol => return AtomAnswer::Read(next, budget, header_atom(kind, arg, first, next)),
+        Kind::Sequence => {
+            let atom = header_atom(kind, arg, first, next, Nucleus::None);
+            return AtomAnswer::Read(next, budget, atom);
+        }
+        Kind::Map => {
+            let atom = header_atom(kind, arg, first, next, Nucleus::None);
+            return AtomAnswer::Read(next, budget, atom);
+        }
+        Kind::Symbol => {
+            let atom = header_atom(kind, arg, first, next, Nucleus::None);
+            return AtomAnswer::Read(next, budget, atom);
+        }
         Kind::Special => return read_special(arg, first, next, budget),
         Kind::Int | Kind::UInt => return read_integer(source, kind, arg, first, next, budget, way),
         Kind::Float => return read_float(source, arg, first, next, budget, way),

@@ -13,5 +13,5 @@ pub read-atom-by-spec : {M : Type 1} → statement M
 read-atom-by-spec =
     tie.close
     (tie.spec
-    (λ c κs. search atom-ends) (λ c. search atom-ends) (λ c κs. search atom-ends) (λ c. search atom-ends) returns
-    (λ c. search atom-ends) returns-2)
+    (λ c κs. search atom-ends) (λ c. search atom-ends) (λ c κs. search atom-ends) (λ c κs. search atom-ends)
+    (λ c. search atom-ends) returns (λ c. search atom-ends) returns-2)

@@ -13,5 +13,5 @@ pub read-special-spec : {M : Type 1} → statement M
 read-special-spec =
     tie.close
     (tie.spec
-    (λ c κs. search special-ends) (λ c. search special-ends) (λ c κs. search special-ends) returns
-    (λ c. search special-ends) returns-2)
+    (λ c κs. search special-ends) (λ c. search special-ends) (λ c κs. search special-ends)
+    (λ c κs. search special-ends) returns (λ c. search special-ends) returns-2)
