@@ -10,12 +10,14 @@ use lib.ListN.{length}
 use borrow.Author.Tests.{lt-ltb, le-ltb, le-leb, lt-leb, ltb-true, ltb-false, leb-true, leb-false}
 use Rattle.types.specs.Forms.{countOf, known, bodyLength, chargeOf, isString}
 use Rattle.types.specs.Choice.{pick}
+use Rattle.types.specs.Counters.{placesOf}
 use Rattle.types.specs.Kinds.{specialFrom}
 use Rattle.types.proofs.Specials.{special-below, special-above}
 use Rattle.types.specs.declared.Way.the-variants as W
 use Rattle.types.specs.declared.Kind.{Kind}
 use Rattle.types.specs.declared.Kind.the-variants as K
 use Rattle.types.specs.declared.Place.{Place}
+use Rattle.types.specs.declared.Places.{Places}
 use Rattle.types.specs.declared.Budget.{Budget}
 use Rattle.types.specs.declared.Refusal.{Refusal}
 use Rattle.types.specs.declared.Refusal.the-variants as R
@@ -23,7 +25,6 @@ use Rattle.types.specs.declared.Special.{Special}
 use Rattle.types.specs.declared.SpecialAnswer.{SpecialAnswer}
 use Rattle.types.specs.declared.SpecialAnswer.the-variants as SA
 use Rattle.types.specs.declared.BudgetAnswer.the-variants as BA
-use Rattle.types.specs.declared.HeaderAnswer.the-variants as H
 use Rattle.types.specs.declared.AtomAnswer.{AtomAnswer}
 use Rattle.types.specs.declared.Skipped.{Skipped}
 use Rattle.types.specs.declared.Skipped.the-variants as SK
@@ -54,35 +55,37 @@ pub afforded : (b : Budget) (c : ℕ) (rest : Budget) → budgetAfter b c ≡ BA
 afforded b c rest h = afforded-at b c rest (ltb (b .0) c) refl h
 
 -- the four ends of a body
-module _ (size at left : ℕ) (string : Bool) (len charge : ℕ) (why : Refusal) where
+module _ (size first at left : ℕ) (string : Bool) (len charge : ℕ) (why : Refusal) where
   pub past-over : (allowed : Bool) → left < charge →
-      bodyPast size at left string len charge allowed why
+      bodyPast size first at left string len charge allowed why
       ≡ SK.Refused (record { 0 = at }) (record { 0 = left }) R.TooManyBytesRead
   unfolding bodyPast
   past-over allowed h = simp (lt-ltb left charge h)
 
   pub past-unknown : charge ≤ left →
-      bodyPast size at left string len charge false why
+      bodyPast size first at left string len charge false why
       ≡ SK.Refused (record { 0 = at }) (record { 0 = left - charge }) why
   unfolding bodyPast
   past-unknown h = simp (le-ltb left charge h)
 
   pub past-eof : charge ≤ left → size < at + len →
-      bodyPast size at left string len charge true why
+      bodyPast size first at left string len charge true why
       ≡ SK.Refused (record { 0 = size }) (record { 0 = left - charge }) R.Eof
   unfolding bodyPast
   past-eof h k = simp (le-ltb left charge h, lt-leb (at + len) size k)
 
   pub past-whole : charge ≤ left → at + len ≤ size →
-      bodyPast size at left string len charge true why
-      ≡ SK.Past (record { 0 = at + len }) (record { 0 = left - charge }) (record { 0 = at }) string
+      bodyPast size first at left string len charge true why
+      ≡ SK.Past (record { 0 = at + len }) (record { 0 = left - charge })
+      (placesOf (record { 0 = first }) (record { 0 = at }) (record { 0 = at + len })) string
   unfolding bodyPast
   past-whole h k = simp (le-ltb left charge h, le-leb (at + len) size k)
 
 -- an atom of its header only: a sequence, a map, a symbol, a special that is known
-module _ (size : ℕ) (kind : Kind) (arg : ℕ) (at : Place) (left : Budget) where
+module _ (size : ℕ) (kind : Kind) (arg : ℕ) (first at : Place) (left : Budget) where
   pub header-only : (k : Kind) → kind ≡ k → known k arg ≡ true → bodyLength k arg ≡ 0 → chargeOf k arg ≡ 0 →
-      isString k ≡ false → at .0 ≤ size → SK.Past at left at false ≡ bodyAfter size kind arg (at .0) (left .0)
+      isString k ≡ false → at .0 ≤ size →
+      SK.Past at left (placesOf first at at) false ≡ bodyAfter size kind arg (first .0) (at .0) (left .0)
   unfolding bodyPast
   header-only k e known-is none free no-string within =
       let a : at .0 + 0 ≡ at .0 = omega arith in
@@ -93,30 +96,31 @@ module _ (size : ℕ) (kind : Kind) (arg : ℕ) (at : Place) (left : Budget) whe
   -- a special, by what its argument answers
   module _ (k : kind ≡ K.Special) (got : SpecialAnswer) (g : got ≡ specialFrom arg) where
     pub special-past : (special : Special) → got ≡ SA.Known special → at .0 ≤ size →
-        SK.Past at left at false ≡ bodyAfter size kind arg (at .0) (left .0)
+        SK.Past at left (placesOf first at at) false ≡ bodyAfter size kind arg (first .0) (at .0) (left .0)
     special-past special e within =
         header-only K.Special k (special-below arg special (sym g ∙ e)) refl refl refl within
 
     pub special-other : (why : Refusal) → got ≡ SA.Refused why →
-        SK.Refused at left why ≡ bodyAfter size kind arg (at .0) (left .0)
+        SK.Refused at left why ≡ bodyAfter size kind arg (first .0) (at .0) (left .0)
     unfolding bodyPast
     special-other why e =
         let above = special-above arg why (sym g ∙ e) in
         let b : left .0 - 0 ≡ left .0 = omega arith in
         rw (k, above .1, above .0) (simp (le-ltb (left .0) 0 (omega arith), b))
 
-module _ (s : List ℕ) (arg : ℕ) (next : Place) (budget : Budget) where
+module _ (s : List ℕ) (arg : ℕ) (first next : Place) (budget : Budget) where
   -- what a body of so many bytes does, with the budget that is left
   abbrev ended : Kind → Budget → Skipped
   ended kind rest =
       pick (leb (next .0 + bodyLength kind arg) (length s))
-      (SK.Past (record { 0 = next .0 + bodyLength kind arg }) rest next (isString kind))
+      (SK.Past (record { 0 = next .0 + bodyLength kind arg }) rest
+      (placesOf first next (record { 0 = next .0 + bodyLength kind arg })) (isString kind))
       (SK.Refused (record { 0 = length s }) rest R.Eof)
 
   module _ (rest : Budget) where
     -- an atom of its header only
     header-taken : (kind : Kind) → bodyLength kind arg ≡ 0 → isString kind ≡ false → next .0 ≤ length s →
-        SK.Past next rest next false ≡ ended kind rest
+        SK.Past next rest (placesOf first next next) false ≡ ended kind rest
     header-taken kind none no-string h =
         let a : next .0 + 0 ≡ next .0 = omega arith in
         rw (none, no-string) (simp (a, le-leb (next .0) (length s) h))
@@ -124,20 +128,20 @@ module _ (s : List ℕ) (arg : ℕ) (next : Place) (budget : Budget) where
     -- a number, by the test that it passes
     integer-taken : (kind : Kind) (v : Bool) → isString kind ≡ false →
         leb (next .0 + bodyLength kind arg) (length s) ≡ v →
-        forgotten (H.Read next kind arg) (integerTaken W.ExactLent s kind arg next rest) ≡ ended kind rest
+        forgotten (integerTaken W.ExactLent s kind arg first next rest) ≡ ended kind rest
     unfolding integerBody
     integer-taken kind true i c = simp (i, c)
     integer-taken kind false i c = simp (i, c)
 
     float-taken : (v : Bool) → leb (next .0 + countOf arg) (length s) ≡ v →
-        forgotten (H.Read next K.Float arg) (floatTaken W.ExactLent s arg next rest) ≡ ended K.Float rest
+        forgotten (floatTaken W.ExactLent s arg first next rest) ≡ ended K.Float rest
     unfolding floatBody
     float-taken true c = simp c
     float-taken false c = simp c
 
     -- a string
     string-taken : next .0 ≤ length s → (v : Bool) → leb (next .0 + arg) (length s) ≡ v →
-        forgotten (H.Read next K.Bytes arg) (bytesTaken W.ExactLent s arg next [] rest) ≡ ended K.Bytes rest
+        forgotten (bytesTaken W.ExactLent s arg first next [] rest) ≡ ended K.Bytes rest
     unfolding lentString
     string-taken h true c =
         simp
@@ -147,7 +151,7 @@ module _ (s : List ℕ) (arg : ℕ) (next : Place) (budget : Budget) where
         (c, le-ltb (length s) (next .0) h, lt-ltb (length s) (next .0 + arg) (leb-false (next .0 + arg) (length s) c))
 
     taken-after : (kind : Kind) → next .0 ≤ length s →
-        forgotten (H.Read next kind arg) (bodyTaken W.ExactLent s kind arg next [] rest) ≡ ended kind rest
+        forgotten (bodyTaken W.ExactLent s kind arg first next [] rest) ≡ ended kind rest
     taken-after K.Special h = header-taken K.Special refl refl h
     taken-after K.Int h = integer-taken K.Int _ refl refl
     taken-after K.UInt h = integer-taken K.UInt _ refl refl
@@ -159,9 +163,9 @@ module _ (s : List ℕ) (arg : ℕ) (next : Place) (budget : Budget) where
 
   -- the charge first, and then whether the atom is known
   judged-after : (kind : Kind) (body : Budget → AtomAnswer) (t u : Bool) → ltb (budget .0) (chargeOf kind arg) ≡ t →
-      known kind arg ≡ u → ((rest : Budget) → forgotten (H.Read next kind arg) (body rest) ≡ ended kind rest) →
-      forgotten (H.Read next kind arg) (judged kind arg next budget body)
-      ≡ bodyAfter (length s) kind arg (next .0) (budget .0)
+      known kind arg ≡ u → ((rest : Budget) → forgotten (body rest) ≡ ended kind rest) →
+      forgotten (judged kind arg next budget body)
+      ≡ bodyAfter (length s) kind arg (first .0) (next .0) (budget .0)
   unfolding judged bodyPast
   judged-after kind body true u a b f = simp a
   judged-after kind body false false a b f = simp (a, b)
@@ -169,55 +173,56 @@ module _ (s : List ℕ) (arg : ℕ) (next : Place) (budget : Budget) where
 
   -- EVERY KIND: what `read_atom` does after a header, with the value forgotten
   pub after-header : (kind : Kind) → next .0 ≤ length s →
-      forgotten (H.Read next kind arg) (atomAfter W.ExactLent s kind arg next budget [])
-      ≡ bodyAfter (length s) kind arg (next .0) (budget .0)
+      forgotten (atomAfter W.ExactLent s kind arg first next budget [])
+      ≡ bodyAfter (length s) kind arg (first .0) (next .0) (budget .0)
   after-header kind h =
-      judged-after kind (bodyTaken W.ExactLent s kind arg next []) _ _ refl refl (λ rest. taken-after rest kind h)
+      judged-after kind (bodyTaken W.ExactLent s kind arg first next []) _ _ refl refl (λ rest. taken-after rest kind h)
 
 -- a body that was passed: its charge was within the budget, it is known and whole
-pub record Passed (size at left : ℕ) (string : Bool) (len charge : ℕ) (allowed : Bool) (place rest body : ℕ) (t : Bool)
-    : Type 0 where
-  pub afforded : charge ≤ left
-  pub is-known : allowed ≡ true
-  pub is-whole : at + len ≤ size
-  pub ends : place ≡ at + len
-  pub leaves : rest ≡ left - charge
-  pub starts : body ≡ at
-  pub told : t ≡ string
+pub record Passed (size first at left : ℕ) (string : Bool) (len charge : ℕ) (allowed : Bool) (place rest : ℕ)
+    (places : Places) (t : Bool) : Type 0
+  where
+    pub afforded : charge ≤ left
+    pub is-known : allowed ≡ true
+    pub is-whole : at + len ≤ size
+    pub ends : place ≡ at + len
+    pub leaves : rest ≡ left - charge
+    pub stands : places ≡ placesOf (record { 0 = first }) (record { 0 = at }) (record { 0 = at + len })
+    pub told : t ≡ string
 
-module _ (size at left : ℕ) (string : Bool) (len charge : ℕ) (why : Refusal) (place : Place) (rest : Budget)
-    (body : Place) (t : Bool) where
+module _ (size first at left : ℕ) (string : Bool) (len charge : ℕ) (why : Refusal) (place : Place) (rest : Budget)
+    (places : Places) (t : Bool) where
   passed-at : (allowed u v : Bool) → ltb left charge ≡ u → leb (at + len) size ≡ v →
-      bodyPast size at left string len charge allowed why ≡ SK.Past place rest body t →
-      Passed size at left string len charge allowed (place .0) (rest .0) (body .0) t
+      bodyPast size first at left string len charge allowed why ≡ SK.Past place rest places t →
+      Passed size first at left string len charge allowed (place .0) (rest .0) places t
   passed-at allowed true v a b e =
-      let x = sym e ∙ past-over size at left string len charge why allowed (ltb-true left charge a) in
+      let x = sym e ∙ past-over size first at left string len charge why allowed (ltb-true left charge a) in
       absurd (false≢true cc)
   passed-at false false v a b e =
-      let x = sym e ∙ past-unknown size at left string len charge why (ltb-false left charge a) in
+      let x = sym e ∙ past-unknown size first at left string len charge why (ltb-false left charge a) in
       absurd (false≢true cc)
   passed-at true false false a b e =
       let x =
-      sym e ∙ past-eof size at left string len charge why (ltb-false left charge a) (leb-false (at + len) size b)
+      sym e ∙ past-eof size first at left string len charge why (ltb-false left charge a) (leb-false (at + len) size b)
       in
       absurd (false≢true cc)
   passed-at true false true a b e =
       let h = ltb-false left charge a in
       let k = leb-true (at + len) size b in
-      let x = sym e ∙ past-whole size at left string len charge why h k in
+      let x = sym e ∙ past-whole size first at left string len charge why h k in
       let p : place ≡ record { 0 = at + len } = cc in
       let q : rest ≡ record { 0 = left - charge } = cc in
-      let r : body ≡ record { 0 = at } = cc in
       record {
         afforded = h;
         is-known = refl;
         is-whole = k;
         ends = ap (λ (y : Place). y .0) p;
         leaves = ap (λ (y : Budget). y .0) q;
-        starts = ap (λ (y : Place). y .0) r;
+        stands = cc;
         told = cc;
       }
 
-  pub passed : (allowed : Bool) → bodyPast size at left string len charge allowed why ≡ SK.Past place rest body t →
-      Passed size at left string len charge allowed (place .0) (rest .0) (body .0) t
+  pub passed : (allowed : Bool) →
+      bodyPast size first at left string len charge allowed why ≡ SK.Past place rest places t →
+      Passed size first at left string len charge allowed (place .0) (rest .0) places t
   passed allowed e = passed-at allowed _ _ refl refl e

@@ -12,7 +12,9 @@ use lib.ListN.{length, take, drop, length-append, length-drop, take-append-drop}
 use lib.Seq.{drop-append-seam, length-take-le}
 use borrow.Author.Tests.{le-ltb, ltb-true, ltb-false, leb-true, leb-false}
 use Rattle.types.specs.Forms.{known, chargeOf, unknown}
+use Rattle.types.specs.Counters.{noPlaces}
 use Rattle.types.specs.declared.Place.{Place}
+use Rattle.types.specs.declared.Places.{Places}
 use Rattle.types.specs.declared.Refusal.{Refusal}
 use Rattle.types.specs.declared.Refusal.the-variants as R
 use Rattle.types.specs.declared.Ran.the-variants as RN
@@ -23,12 +25,15 @@ use Rattle.types.specs.declared.Kind.{Kind}
 use Rattle.types.specs.declared.Kind.the-variants as K
 use Rattle.header.proofs.Fewest.{length-bounds}
 use Rattle.dictionary.specs.Wholes.{IsAtom, price, bodyBytes, lettersIn, Atoms, none}
+use Rattle.dictionary.specs.Wholes.{placesAt, lastFrom, lastPlaces}
 use Rattle.dictionary.specs.Wholes.{more, total, Spoilt, cut-header, not-known, cut-body}
 use Rattle.dictionary.specs.Prices.{priced, Passing, Barred, over-budget, Made, Broken}
 use Rattle.dictionary.specs.Runs.{runFrom, runAll, tallied, tallyFrom, tallyAll, nothing, mostBytes, unlimited}
 use Rattle.dictionary.proofs.Steps.{price-bound}
 use Rattle.dictionary.proofs.Turns.{run-on, run-stop, run-end, tally-on, tally-stop, tally-end}
-use Rattle.dictionary.proofs.Running.{running}
+use Rattle.dictionary.proofs.Running.{Held, holding, running}
+use Rattle.dictionary.proofs.Tallying as Tallying
+use Rattle.dictionary.proofs.Tallying.{tallying}
 use Rattle.dictionary.proofs.Fronts.{front, front-grows}
 use Rattle.dictionary.proofs.Wholes.{price-word, atom-some, atom-within, atom-next, atom-past, plus}
 use Rattle.dictionary.proofs.Wholes.{added-plus, barred-refuses, spoilt-bars, asked-word}
@@ -48,26 +53,27 @@ price-body (atom ∷ atoms) =
     let others = price-body atoms in
     omega arith
 
--- A WALK PASSES OVER WHOLE, KNOWN ATOMS, whatever it holds: after each, what `next` makes of it, as long as it covers
--- them
-unfoldable passed : {X : Type 0} → (X → List ℕ → X) → X → List (List ℕ) → X
-passed next x [] = x
-passed next x (atom ∷ atoms) = passed next (next x atom) atoms
+-- A WALK PASSES OVER WHOLE, KNOWN ATOMS, whatever it holds: after each, which stands at a place, what `next` makes of it,
+-- as long as it covers them
+unfoldable passed : {X : Type 0} → (ℕ → X → List ℕ → X) → ℕ → X → List (List ℕ) → X
+passed next at x [] = x
+passed next at x (atom ∷ atoms) = passed next (at + length atom) (next at x atom) atoms
 
 -- a turn of a walk over an atom that stands at a place
-abbrev Turn : {X Y : Type 0} → (ℕ → List ℕ → ℕ → X → Y) → (X → List ℕ → X) → (X → List (List ℕ) → Type 0) → Type 0
+abbrev Turn : {X Y : Type 0} → (ℕ → List ℕ → ℕ → X → Y) → (ℕ → X → List ℕ → X) → (X → List (List ℕ) → Type 0) → Type 0
 Turn {X} walk next Covers =
     (s : List ℕ) (fuel left at : ℕ) (x : X) (atom after : List ℕ) (atoms : List (List ℕ)) → fuel ≡ suc left →
     at < length s → at ≤ length s → drop at s ≡ atom ++ after → IsAtom atom → Covers x (atom ∷ atoms) →
-    (walk fuel s at x ≡ walk left s (at + length atom) (next x atom)) × Covers (next x atom) atoms
+    (walk fuel s at x ≡ walk left s (at + length atom) (next at x atom)) × Covers (next at x atom) atoms
 
 walk-over :
-    {X Y : Type 0} (walk : ℕ → List ℕ → ℕ → X → Y) (next : X → List ℕ → X) (Covers : X → List (List ℕ) → Type 0) →
+    {X Y : Type 0} (walk : ℕ → List ℕ → ℕ → X → Y) (next : ℕ → X → List ℕ → X)
+    (Covers : X → List (List ℕ) → Type 0) →
     Turn walk next Covers
     → (s : List ℕ) {l : List ℕ} {atoms : List (List ℕ)} → Atoms l atoms →
     (after : List ℕ) (fuel left at end : ℕ) (x : X) → fuel ≡ length atoms + left → end ≡ at + length l → at ≤ length s →
     drop at s ≡ l ++ after → Covers x atoms
-    → walk fuel s at x ≡ walk left s end (passed next x atoms)
+    → walk fuel s at x ≡ walk left s end (passed next at x atoms)
 unfolding passed
 walk-over walk next Covers turn s none after fuel left at end x f e within here c =
     let a : fuel ≡ left = omega arith in
@@ -81,27 +87,40 @@ walk-over walk next Covers turn s (more {atom} {rest} {atoms} w r) after fuel le
     let n : end ≡ at + length atom + length rest = omega (arith, length-append atom rest) in
     let t = turn s fuel (length atoms + left) at x atom (rest ++ after) atoms g (omega arith) within there w c in
     t .0
-    ∙ walk-over walk next Covers turn s r after (length atoms + left) left (at + length atom) end (next x atom) refl n
+    ∙ walk-over walk next Covers turn s r after (length atoms + left) left (at + length atom) end (next at x atom) refl n
     inside (atom-next s at within atom (rest ++ after) there w) (t .1)
 
--- THE TALLY adds what each has
-unfoldable summed : Tallied → List (List ℕ) → Tallied
-summed = passed plus
+-- THE TALLY adds what each has, and holds where the last of them stands
+abbrev count : ℕ → Tallying.Held → List ℕ → Tallying.Held
+count at x atom = Tallying.holding (plus (x .counts) atom) (placesAt at atom)
 
-tally-turn : Turn tallyFrom plus (λ t atoms. Unit {0})
-tally-turn s fuel left at t atom after atoms enough going within here w c = (
-  tally-on s fuel left at t enough _ _ _ _ going
+unfoldable summed : Tallied → List (List ℕ) → Tallied
+summed t [] = t
+summed t (atom ∷ atoms) = summed (plus t atom) atoms
+
+counted : (at : ℕ) (t : Tallied) (last : Places) (atoms : List (List ℕ)) →
+    passed count at (Tallying.holding t last) atoms ≡ Tallying.holding (summed t atoms) (lastFrom at last atoms)
+unfolding passed summed lastFrom
+counted at t last [] = refl
+counted at t last (atom ∷ atoms) = counted (at + length atom) (plus t atom) (placesAt at atom) atoms
+
+tally-turn : Turn tallying count (λ x atoms. Unit {0})
+tally-turn s fuel left at x atom after atoms enough going within here w c = (
+  tally-on s fuel left at (x .counts) (x .last) enough _ _ _ _ going
       (atom-past s at within atom after here w (record { 0 = unlimited }) (price-word atom))
-      ∙ ap (tallyFrom left s (at + length atom)) (added-plus s at atom after here w t),
+      ∙ ap (λ (t : Tallied). tallyFrom left s (at + length atom) t (placesAt at atom))
+      (added-plus s at atom after here w (x .counts)),
   tt,
 )
 
 tally-over : (s : List ℕ) {l : List ℕ} {atoms : List (List ℕ)} → Atoms l atoms →
-    (after : List ℕ) (fuel left at end : ℕ) (t : Tallied) → fuel ≡ length atoms + left → end ≡ at + length l →
-    at ≤ length s → drop at s ≡ l ++ after → tallyFrom fuel s at t ≡ tallyFrom left s end (summed t atoms)
-unfolding summed
-tally-over s w after fuel left at end t f e within here =
-    walk-over tallyFrom plus (λ t atoms. Unit {0}) tally-turn s w after fuel left at end t f e within here tt
+    (after : List ℕ) (fuel left at end : ℕ) (t : Tallied) (last : Places) → fuel ≡ length atoms + left →
+    end ≡ at + length l → at ≤ length s → drop at s ≡ l ++ after →
+    tallyFrom fuel s at t last ≡ tallyFrom left s end (summed t atoms) (lastFrom at last atoms)
+tally-over s {l} {atoms} w after fuel left at end t last f e within here =
+    walk-over tallying count (λ x atoms. Unit {0}) tally-turn s w after fuel left at end (Tallying.holding t last) f e
+    within here tt
+    ∙ ap (tallying left s end) (counted at t last atoms)
 
 -- what it adds up to
 same-tallied : {a a′ b b′ c c′ l l′ : ℕ} → a ≡ a′ → b ≡ b′ → c ≡ c′ → l ≡ l′ → tallied a b c l ≡ tallied a′ b′ c′ l′
@@ -114,7 +133,7 @@ same-tallied {a} {a′} {b} {b′} {c} {c′} {l} {l′} p q r s =
 summed-total : (a b c l : ℕ) (atoms : List (List ℕ)) →
     summed (tallied a b c l) atoms
     ≡ tallied (a + length atoms) (b + total bodyBytes atoms) (c + total price atoms) (l + total lettersIn atoms)
-unfolding summed passed total
+unfolding summed total
 summed-total a b c l [] = same-tallied (zeroed a) (zeroed b) (zeroed c) (zeroed l)
   where
     zeroed : (n : ℕ) → n ≡ n + 0
@@ -141,37 +160,40 @@ summed-all atoms =
 
 -- 1: THE TALLY ANSWERS C, the number of atoms, the body bytes and the letters
 pub tally-priced : (s : List ℕ) (atoms : List (List ℕ)) → length s ≤ mostBytes → Atoms s atoms →
-    tallyAll s ≡ TA.Done (priced atoms)
+    tallyAll s ≡ TA.Done (lastPlaces atoms) (priced atoms)
 tally-priced s atoms short w =
     let most = atoms-most w in
     let there : s ≡ s ++ [] = sym (append-nil s) in
     let e : length s ≡ 0 + length s = omega arith in
     rw (le-ltb mostBytes (length s) short)
-    (tally-over s w [] (suc (length s)) (suc (length s - length atoms)) 0 (length s) nothing (omega arith) e
+    (tally-over s w [] (suc (length s)) (suc (length s - length atoms)) 0 (length s) nothing noPlaces (omega arith) e
     (omega arith) there
-    ∙ tally-end s (suc (length s - length atoms)) (length s - length atoms) (length s) (summed nothing atoms) refl
-    (omega arith)
-    ∙ ap TA.Done (summed-all atoms))
+    ∙ tally-end s (suc (length s - length atoms)) (length s - length atoms) (length s) (summed nothing atoms)
+    (lastPlaces atoms) refl (omega arith)
+    ∙ ap (TA.Done (lastPlaces atoms)) (summed-all atoms))
 
--- THE RUN takes their charges off the budget, which covers them, and counts them
-abbrev spend : ℕ × ℕ → List ℕ → ℕ × ℕ
-spend x atom = (x .0 - price atom, x .1 + 1)
+-- THE RUN takes their charges off the budget, which covers them, counts them, and holds where the last of them stands
+abbrev spend : ℕ → Held → List ℕ → Held
+spend at x atom = holding (x .left - price atom) (x .atoms + 1) (placesAt at atom)
 
-run-turn : Turn running spend (λ x atoms. total price atoms ≤ x .0)
+run-turn : Turn running spend (λ x atoms. total price atoms ≤ x .left)
 unfolding total
 run-turn s fuel left at x atom after atoms enough going within here w c = (
-  run-on s fuel left at (record { 0 = x .0 }) (x .1) enough _ _ _ _ going
-      (atom-past s at within atom after here w (record { 0 = x .0 }) (omega arith)),
+  run-on s fuel left at (record { 0 = x .left }) (x .atoms) (x .last) enough _ _ _ _ going
+      (atom-past s at within atom after here w (record { 0 = x .left }) (omega arith)),
   omega arith,
 )
 
-spent : (b n : ℕ) (atoms : List (List ℕ)) → passed spend (b, n) atoms ≡ (b - total price atoms, n + length atoms)
-unfolding passed total
-spent b n [] =
+spent : (at b n : ℕ) (last : Places) (atoms : List (List ℕ)) →
+    passed spend at (holding b n last) atoms
+    ≡ holding (b - total price atoms) (n + length atoms) (lastFrom at last atoms)
+unfolding passed total lastFrom
+spent at b n last [] =
     let p : b ≡ b - 0 = omega arith in
-    let q : n ≡ n + 0 = omega arith in ap (λ (x : ℕ). (x, n)) p ∙ ap (λ (x : ℕ). (b - 0, x)) q
-spent b n (atom ∷ atoms) =
-    let e = spent (b - price atom) (n + 1) atoms in
+    let q : n ≡ n + 0 = omega arith in
+    ap (λ (x : ℕ). holding x n last) p ∙ ap (λ (x : ℕ). holding (b - 0) x last) q
+spent at b n last (atom ∷ atoms) =
+    let e = spent (at + length atom) (b - price atom) (n + 1) (placesAt at atom) atoms in
     let p : b - price atom - total price atoms ≡ b - (price atom + total price atoms) = omega arith in
     let q : n + 1 + length atoms ≡ n + suc (length atoms) = omega arith in
     cc
@@ -184,39 +206,40 @@ module _ (s front rest : List ℕ) (atoms : List (List ℕ)) (budget : ℕ) (w :
 
   run-over : runAll s (record { 0 = budget })
       ≡ runFrom (suc (length s - length atoms)) s (length front) (record { 0 = budget - total price atoms })
-      (length atoms)
+      (length atoms) (lastPlaces atoms)
   run-over =
       let n = its-size in
       let most = atoms-most w in
       let end : length front ≡ 0 + length front = omega arith in
       let k : 0 + length atoms ≡ length atoms = omega arith in
-      walk-over running spend (λ x atoms. total price atoms ≤ x .0) run-turn s w rest (suc (length s))
-      (suc (length s - length atoms)) 0 (length front) (budget, 0) (omega arith) end (omega arith) e c
-      ∙ ap (running (suc (length s - length atoms)) s (length front)) (spent budget 0 atoms)
-      ∙ ap (runFrom (suc (length s - length atoms)) s (length front) (record { 0 = budget - total price atoms })) k
+      walk-over running spend (λ x atoms. total price atoms ≤ x .left) run-turn s w rest (suc (length s))
+      (suc (length s - length atoms)) 0 (length front) (holding budget 0 noPlaces) (omega arith) end (omega arith) e c
+      ∙ ap (running (suc (length s - length atoms)) s (length front)) (spent 0 budget 0 noPlaces atoms)
+      ∙ ap (λ (n : ℕ). runFrom (suc (length s - length atoms)) s (length front)
+      (record { 0 = budget - total price atoms }) n (lastPlaces atoms)) k
 
   -- and stops at the atom behind them, if that is refused
   pub run-barred : (why : Refusal) (past charge : ℕ) → 1 ≤ length rest →
       Barred rest (budget - total price atoms) why past charge →
       runAll s (record { 0 = budget })
       ≡ RN.Stopped (record { 0 = length front + past }) (record { 0 = budget - total price atoms - charge })
-      (length atoms) why (record { 0 = length front })
+      (length atoms) (lastPlaces atoms) why (record { 0 = length front })
   run-barred why past charge some bad =
       let n = its-size in
       let there : drop (length front) s ≡ rest = ap (drop (length front)) e ∙ drop-append-seam front rest in
       run-over
       ∙ run-stop s (suc (length s - length atoms)) (length s - length atoms) (length front)
-      (record { 0 = budget - total price atoms }) (length atoms) refl _ _ why (omega arith)
+      (record { 0 = budget - total price atoms }) (length atoms) (lastPlaces atoms) refl _ _ why (omega arith)
       (barred-refuses s (length front) (omega arith) rest there (budget - total price atoms) bad)
 
 -- 2: A RUN WITH A BUDGET OF AT LEAST C reads them all, and leaves the budget less C
 pub run-priced : (s : List ℕ) (atoms : List (List ℕ)) (budget : ℕ) → Atoms s atoms → total price atoms ≤ budget →
     runAll s (record { 0 = budget })
-    ≡ RN.Done (record { 0 = length s }) (record { 0 = budget - total price atoms }) (length atoms)
+    ≡ RN.Done (record { 0 = length s }) (record { 0 = budget - total price atoms }) (length atoms) (lastPlaces atoms)
 run-priced s atoms budget w c =
     run-over s s [] atoms budget w (sym (append-nil s)) c
     ∙ run-end s (suc (length s - length atoms)) (length s - length atoms) (length s)
-    (record { 0 = budget - total price atoms }) (length atoms) refl (omega arith)
+    (record { 0 = budget - total price atoms }) (length atoms) (lastPlaces atoms) refl (omega arith)
 
 -- 3: A RUN WITH A SMALLER BUDGET is refused with 5 at the first atom whose running sum passes it
 
@@ -313,7 +336,7 @@ module _ (l : List ℕ) (budget : ℕ) (atoms : List (List ℕ)) (p : Parted l b
 pub run-short : (s : List ℕ) (atoms : List (List ℕ)) (budget : ℕ) → Atoms s atoms → budget < total price atoms →
     (p : Passing budget atoms) × (runAll s (record { 0 = budget })
     ≡ RN.Stopped (record { 0 = total length (p .before) + headerLength (p .atom) })
-    (record { 0 = budget - total price (p .before) }) (length (p .before)) R.TooManyBytesRead
+    (record { 0 = budget - total price (p .before) }) (length (p .before)) (lastPlaces (p .before)) R.TooManyBytesRead
     (record { 0 = total length (p .before) }))
 run-short s atoms budget w c =
     let p = parted w budget c in
@@ -332,7 +355,8 @@ run-short s atoms budget w c =
 
 -- the tally refuses there, with that atom's own refusal
 broken-at : (s front rest : List ℕ) (atoms : List (List ℕ)) (why : Refusal) → length s ≤ mostBytes → Atoms front atoms →
-    s ≡ front ++ rest → 1 ≤ length rest → Spoilt rest why → tallyAll s ≡ TA.Stopped (record { 0 = length front }) why
+    s ≡ front ++ rest → 1 ≤ length rest → Spoilt rest why →
+    tallyAll s ≡ TA.Stopped (lastPlaces atoms) why (record { 0 = length front })
 broken-at s front rest atoms why short w e some bad =
     let n : length s ≡ length front + length rest = ap length e ∙ length-append front rest in
     let most = atoms-most w in
@@ -341,13 +365,13 @@ broken-at s front rest atoms why short w e some bad =
     let within : length front ≤ length s = omega arith in
     let r = spoilt-bars rest unlimited why bad (asked-word rest) in
     rw (le-ltb mostBytes (length s) short)
-    (tally-over s w rest (suc (length s)) (suc (length s - length atoms)) 0 (length front) nothing (omega arith) end
-    (omega arith) e
-    ∙ tally-stop s (suc (length s - length atoms)) (length s - length atoms) (length front) (summed nothing atoms) refl
-    _ _ why (omega arith) (barred-refuses s (length front) within rest there unlimited (r .bars)))
+    (tally-over s w rest (suc (length s)) (suc (length s - length atoms)) 0 (length front) nothing noPlaces
+    (omega arith) end (omega arith) e
+    ∙ tally-stop s (suc (length s - length atoms)) (length s - length atoms) (length front) (summed nothing atoms)
+    (lastPlaces atoms) refl _ _ why (omega arith) (barred-refuses s (length front) within rest there unlimited (r .bars)))
 
 pub tally-broken : (s : List ℕ) (b : Broken s) → length s ≤ mostBytes →
-    tallyAll s ≡ TA.Stopped (record { 0 = length (b .front-bytes) }) (b .why)
+    tallyAll s ≡ TA.Stopped (lastPlaces (b .atoms)) (b .why) (record { 0 = length (b .front-bytes) })
 tally-broken s b short =
     broken-at s (b .front-bytes) (b .rest) (b .atoms) (b .why) short (b .wholes) (b .joined) (b .some) (b .spoilt)
 
@@ -436,60 +460,84 @@ spoilt-other l why (cut-header h) e = false≢true cc
 spoilt-other l why (not-known h k) e = other-refusal (headerKind l) (headerArgument l) e
 spoilt-other l why (cut-body h k m) e = false≢true cc
 
-never-five-at : (s : List ℕ) (place : Place) (t : Bool) → ltb mostBytes (length s) ≡ t →
-    tallyAll s ≡ TA.Stopped place R.TooManyBytesRead → ⊥
-never-five-at s place true h e =
-    let x : TA.Refused R.TooLong ≡ TA.Stopped place R.TooManyBytesRead = rw h at e in false≢true cc
-never-five-at s place false h e =
+never-five-at : (s : List ℕ) (last : Places) (place : Place) (t : Bool) → ltb mostBytes (length s) ≡ t →
+    tallyAll s ≡ TA.Stopped last R.TooManyBytesRead place → ⊥
+never-five-at s last place true h e =
+    let x : TA.Refused noPlaces R.TooLong ≡ TA.Stopped last R.TooManyBytesRead place = rw h at e in false≢true cc
+never-five-at s last place false h e =
     let short = ltb-false mostBytes (length s) h in
     ⊎-elim
-    (λ m. differ s (m .atoms) place (tally-priced s (m .atoms) short (m .wholes)) e)
-    (λ b. spoilt-other (b .rest) (b .why) (b .spoilt)
-    (same s (record { 0 = length (b .front-bytes) }) place (b .why) (tally-broken s b short) e))
+    (λ m. differ s (m .atoms) (tally-priced s (m .atoms) short (m .wholes)) e)
+    (λ b. spoilt-other (b .rest) (b .why) (b .spoilt) (same s (lastPlaces (b .atoms))
+    (record { 0 = length (b .front-bytes) }) (b .why) (tally-broken s b short) e))
     (judged s)
   where
-    differ : (s : List ℕ) (atoms : List (List ℕ)) (place : Place) → tallyAll s ≡ TA.Done (priced atoms) →
-        tallyAll s ≡ TA.Stopped place R.TooManyBytesRead → ⊥
-    differ s atoms place p q = let x = sym p ∙ q in false≢true cc
+    differ : (s : List ℕ) (atoms : List (List ℕ)) → tallyAll s ≡ TA.Done (lastPlaces atoms) (priced atoms) →
+        tallyAll s ≡ TA.Stopped last R.TooManyBytesRead place → ⊥
+    differ s atoms p q = let x = sym p ∙ q in false≢true cc
 
-    same : (s : List ℕ) (at place : Place) (why : Refusal) → tallyAll s ≡ TA.Stopped at why →
-        tallyAll s ≡ TA.Stopped place R.TooManyBytesRead → why ≡ R.TooManyBytesRead
-    same s at place why p q = let x = sym p ∙ q in cc
+    same : (s : List ℕ) (front : Places) (at : Place) (why : Refusal) → tallyAll s ≡ TA.Stopped front why at →
+        tallyAll s ≡ TA.Stopped last R.TooManyBytesRead place → why ≡ R.TooManyBytesRead
+    same s front at why p q = let x = sym p ∙ q in cc
 
-pub never-five : (s : List ℕ) (place : Place) → tallyAll s ≡ TA.Stopped place R.TooManyBytesRead → ⊥
-never-five s place e = never-five-at s place (ltb mostBytes (length s)) refl e
+pub never-five : (s : List ℕ) (last : Places) (place : Place) →
+    tallyAll s ≡ TA.Stopped last R.TooManyBytesRead place → ⊥
+never-five s last place e = never-five-at s last place (ltb mostBytes (length s)) refl e
 
--- THE RUN AND THE TALLY AGREE: a run with at least the charge that the tally answers reads as many atoms, and leaves
--- the rest
-agree-made : (s : List ℕ) (atoms : List (List ℕ)) (t : Tallied) (budget : ℕ) → Atoms s atoms → priced atoms ≡ t →
-    t .charge ≤ budget →
-    runAll s (record { 0 = budget }) ≡ RN.Done (record { 0 = length s }) (record { 0 = budget - t .charge }) (t .atoms)
-agree-made s atoms t budget w e h =
+-- THE RUN AND THE TALLY AGREE: a run with at least the charge that the tally answers reads as many atoms, leaves the
+-- rest, and ends with the same last atom
+agree-made : (s : List ℕ) (atoms : List (List ℕ)) (t : Tallied) (last : Places) (budget : ℕ) → Atoms s atoms →
+    priced atoms ≡ t → lastPlaces atoms ≡ last → t .charge ≤ budget →
+    runAll s (record { 0 = budget })
+    ≡ RN.Done (record { 0 = length s }) (record { 0 = budget - t .charge }) (t .atoms) last
+agree-made s atoms t last budget w e l h =
     let c : total price atoms ≡ t .charge = ap (λ (x : Tallied). x .charge) e in
     let n : length atoms ≡ t .atoms = ap (λ (x : Tallied). x .atoms) e in
     run-priced s atoms budget w (rw c h)
-    ∙ ap (λ (x : ℕ). RN.Done (record { 0 = length s }) (record { 0 = budget - x }) (length atoms)) c
-    ∙ ap (λ (x : ℕ). RN.Done (record { 0 = length s }) (record { 0 = budget - t .charge }) x) n
+    ∙ ap (λ (x : ℕ). RN.Done (record { 0 = length s }) (record { 0 = budget - x }) (length atoms) (lastPlaces atoms)) c
+    ∙ ap (λ (x : ℕ). RN.Done (record { 0 = length s }) (record { 0 = budget - t .charge }) x (lastPlaces atoms)) n
+    ∙ ap (RN.Done (record { 0 = length s }) (record { 0 = budget - t .charge }) (t .atoms)) l
 
-agree-at : (s : List ℕ) (t : Tallied) (budget : ℕ) (l : Bool) → ltb mostBytes (length s) ≡ l → tallyAll s ≡ TA.Done t →
-    t .charge ≤ budget →
-    runAll s (record { 0 = budget }) ≡ RN.Done (record { 0 = length s }) (record { 0 = budget - t .charge }) (t .atoms)
-agree-at s t budget true h e c =
-    let x : TA.Refused R.TooLong ≡ TA.Done t = rw h at e in absurd (false≢true cc)
-agree-at s t budget false h e c =
+agree-at : (s : List ℕ) (t : Tallied) (last : Places) (budget : ℕ) (l : Bool) → ltb mostBytes (length s) ≡ l →
+    tallyAll s ≡ TA.Done last t → t .charge ≤ budget →
+    runAll s (record { 0 = budget })
+    ≡ RN.Done (record { 0 = length s }) (record { 0 = budget - t .charge }) (t .atoms) last
+agree-at s t last budget true h e c =
+    let x : TA.Refused noPlaces R.TooLong ≡ TA.Done last t = rw h at e in absurd (false≢true cc)
+agree-at s t last budget false h e c =
     let short = ltb-false mostBytes (length s) h in
-    ⊎-elim
-    (λ m. agree-made s (m .atoms) t budget (m .wholes)
-    (same (priced (m .atoms)) t (sym (tally-priced s (m .atoms) short (m .wholes)) ∙ e)) c)
-    (λ b. absurd (differ (record { 0 = length (b .front-bytes) }) (b .why) t (sym (tally-broken s b short) ∙ e)))
+    ⊎-elim (λ m. made m (tally-priced s (m .atoms) short (m .wholes)))
+    (λ b. absurd (differ b (tally-broken s b short)))
     (judged s)
   where
-    same : (a b : Tallied) → TA.Done a ≡ TA.Done b → a ≡ b
-    same a b e = cc
+    made : (m : Made s) → tallyAll s ≡ TA.Done (lastPlaces (m .atoms)) (priced (m .atoms)) →
+        runAll s (record { 0 = budget })
+        ≡ RN.Done (record { 0 = length s }) (record { 0 = budget - t .charge }) (t .atoms) last
+    made m p =
+        let x = sym p ∙ e in
+        let a : priced (m .atoms) ≡ t = cc in
+        let b : lastPlaces (m .atoms) ≡ last = cc in
+        agree-made s (m .atoms) t last budget (m .wholes) a b c
 
-    differ : (at : Place) (why : Refusal) (t : Tallied) → TA.Stopped at why ≡ TA.Done t → ⊥
-    differ at why t e = false≢true cc
+    differ : (b : Broken s) →
+        tallyAll s ≡ TA.Stopped (lastPlaces (b .atoms)) (b .why) (record { 0 = length (b .front-bytes) }) → ⊥
+    differ b p = let x = sym p ∙ e in false≢true cc
 
-pub agree : (s : List ℕ) (t : Tallied) (budget : ℕ) → tallyAll s ≡ TA.Done t → t .charge ≤ budget →
-    runAll s (record { 0 = budget }) ≡ RN.Done (record { 0 = length s }) (record { 0 = budget - t .charge }) (t .atoms)
-agree s t budget e c = agree-at s t budget (ltb mostBytes (length s)) refl e c
+pub agree : (s : List ℕ) (t : Tallied) (last : Places) (budget : ℕ) → tallyAll s ≡ TA.Done last t →
+    t .charge ≤ budget →
+    runAll s (record { 0 = budget })
+    ≡ RN.Done (record { 0 = length s }) (record { 0 = budget - t .charge }) (t .atoms) last
+agree s t last budget e c = agree-at s t last budget (ltb mostBytes (length s)) refl e c
+
+-- THE LAST ATOM IS THE LAST: it starts after all that stand before it
+last-at : (at : ℕ) (last : Places) (before : List (List ℕ)) (atom : List ℕ) →
+    lastFrom at last (before ++ (atom ∷ [])) ≡ placesAt (at + total length before) atom
+unfolding lastFrom total
+last-at at last [] atom = let z : at ≡ at + 0 = omega arith in ap (λ (n : ℕ). placesAt n atom) z
+last-at at last (one ∷ before) atom =
+    let z : at + length one + total length before ≡ at + (length one + total length before) = omega arith in
+    last-at (at + length one) (placesAt at one) before atom ∙ ap (λ (n : ℕ). placesAt n atom) z
+
+pub last-is-last : (before : List (List ℕ)) (atom : List ℕ) →
+    lastPlaces (before ++ (atom ∷ [])) ≡ placesAt (total length before) atom
+last-is-last before atom = last-at 0 noPlaces before atom

@@ -6,7 +6,9 @@ use Prim.Native.Nat.{ℕ, _+_, _-_, _≤_, _<_}
 use native.Mathlib.Omega.{arith}
 use borrow.Author.Needs.{needs}
 use lib.ListN.{length}
+use Rattle.types.specs.Counters.{noPlaces}
 use Rattle.types.specs.declared.Place.{Place}
+use Rattle.types.specs.declared.Places.{Places}
 use Rattle.types.specs.declared.Budget.{Budget}
 use Rattle.types.specs.declared.Refusal.{Refusal}
 use Rattle.types.specs.declared.Skipped.{Skipped}
@@ -20,27 +22,37 @@ use Rattle.dictionary.proofs.Steps.{Past, Told, told, by-step, step-les
 use Rattle.dictionary.proofs.Shorts.{by-first, short-less}
 use Rattle.dictionary.proofs.Turns.{Walked, walk-begins, walk-on, walk-answers, run-on, run-stop, run-end}
 
+-- what a run holds: what is left of the budget, how many atoms it read, and where the last of them stands
+pub record Held : Type 0 where
+  pub left : ℕ
+  pub atoms : ℕ
+  pub last : Places
+
+abbrev pub holding : ℕ → ℕ → Places → Held
+holding left atoms last = record { left = left; atoms = atoms; last = last }
+
 -- so many atoms are read, the place is there, so much of the budget is left, and the rest of the run is the whole one's
-abbrev pub running : ℕ → List ℕ → ℕ → ℕ × ℕ → Ran
-running fuel s at x = runFrom fuel s at (record { 0 = x .0 }) (x .1)
+abbrev pub running : ℕ → List ℕ → ℕ → Held → Ran
+running fuel s at x = runFrom fuel s at (record { 0 = x .left }) (x .atoms) (x .last)
 
-abbrev pub Running : List ℕ → Budget → ℕ → ℕ → ℕ → Type 0
-Running s all atoms at left = Walked running s (runAll s all) atoms at (left, atoms)
+abbrev pub Running : List ℕ → Budget → ℕ → ℕ → ℕ → Places → Type 0
+Running s all atoms at left last = Walked running s (runAll s all) atoms at (holding left atoms last)
 
-pub run-begins : (s : List ℕ) (all : Budget) → Running s all 0 0 (all .0)
-run-begins s all = walk-begins running s (all .0, 0)
+pub run-begins : (s : List ℕ) (all : Budget) (last : Places) → last ≡ noPlaces → Running s all 0 0 (all .0) last
+run-begins s all last e = rw e (walk-begins running s (holding (all .0) 0 noPlaces))
 
 -- an atom passed, by the step or by its first byte
-abbrev Turns : List ℕ → ℕ → Budget → Place → Budget → Place → Bool → Type 0
-Turns s at left place rest body t =
-    (all : Budget) (atoms : ℕ) → Running s all atoms at (left .0) → Running s all (atoms + 1) (place .0) (rest .0)
+abbrev Turns : List ℕ → ℕ → Budget → Place → Budget → Places → Bool → Type 0
+Turns s at left place rest places t =
+    (all : Budget) (atoms : ℕ) (last : Places) → Running s all atoms at (left .0) last →
+    Running s all (atoms + 1) (place .0) (rest .0) places
 
-turns : (s : List ℕ) (at : ℕ) (left : Budget) (place : Place) (rest : Budget) (body : Place) (t : Bool) →
+turns : (s : List ℕ) (at : ℕ) (left : Budget) (place : Place) (rest : Budget) (places : Places) (t : Bool) →
     at < length s →
-    Past s at left place rest body t → Turns s at left place rest body t
-turns s at left place rest body t h e all atoms i =
-    walk-on running s _ atoms at _ i left place rest body t e _
-    (λ fuel later k. run-on s fuel later at left atoms k place rest body t h e)
+    Past s at left place rest places t → Turns s at left place rest places t
+turns s at left place rest places t h e all atoms last i =
+    walk-on running s _ atoms at _ i left place rest places t e (holding (rest .0) (atoms + 1) places)
+    (λ fuel later k. run-on s fuel later at left atoms last k place rest places t h e)
 
 pub short-turn : Told shortStep SH.Past Turns
 short-turn = told shortStep SH.Past by-first Turns turns
@@ -48,19 +60,21 @@ short-turn = told shortStep SH.Past by-first Turns turns
 pub turn : Told skipped SK.Past Turns
 turn = told skipped SK.Past by-step Turns turns
 
-module _ (s : List ℕ) (all : Budget) (atoms : ℕ) (at : Place) (left : Budget)
-    (i : Running s all atoms (at .0) (left .0))
+module _ (s : List ℕ) (all : Budget) (atoms : ℕ) (at : Place) (left : Budget) (last : Places)
+    (i : Running s all atoms (at .0) (left .0) last)
   where
     -- refused by the step
     pub stops : (r : Skipped) (place : Place) (rest : Budget) (why : Refusal) → at .0 < length s →
-        r ≡ skipped s (at .0) left → r ≡ SK.Refused place rest why → RN.Stopped place rest atoms why at ≡ runAll s all
+        r ≡ skipped s (at .0) left → r ≡ SK.Refused place rest why →
+        RN.Stopped place rest atoms last why at ≡ runAll s all
     stops r place rest why h q p =
         walk-answers running s _ atoms (at .0) _ i _
-        (λ fuel later k. run-stop s fuel later (at .0) left atoms k place rest why h (sym q ∙ p))
+        (λ fuel later k. run-stop s fuel later (at .0) left atoms last k place rest why h (sym q ∙ p))
 
     -- the end of the file
-    pub run-ends : length s ≤ at .0 → RN.Done at left atoms ≡ runAll s all
+    pub run-ends : length s ≤ at .0 → RN.Done at left atoms last ≡ runAll s all
     run-ends h =
-        walk-answers running s _ atoms (at .0) _ i _ (λ fuel later k. run-end s fuel later (at .0) left atoms k h)
+        walk-answers running s _ atoms (at .0) _ i _
+        (λ fuel later k. run-end s fuel later (at .0) left atoms last k h)
 
 pub ruleset run-laws = (run-begins, short-turn, turn, short-less, step-less, stops, run-ends, needs)

@@ -9,11 +9,14 @@ use lib.Dec.{leb, eqb}
 use lib.ListN.{length, drop}
 use borrow.Author.Tests.{le-ltb, le-leb, lt-leb, leb-true, leb-false, eqb-true}
 use Rattle.types.specs.Choice.{pick}
+use Rattle.types.specs.Counters.{placesOf}
 use Rattle.types.specs.Forms.{countOf, numberCharge, bodyLength, chargeOf}
 use Rattle.types.specs.declared.Way.the-variants as W
 use Rattle.types.specs.declared.Kind.{Kind}
 use Rattle.types.specs.declared.Kind.the-variants as K
+use Rattle.types.proofs.Counters.{place-same}
 use Rattle.types.specs.declared.Place.{Place}
+use Rattle.types.specs.declared.Places.{Places}
 use Rattle.types.specs.declared.Budget.{Budget}
 use Rattle.types.specs.declared.Refusal.the-variants as R
 use Rattle.types.specs.declared.HeaderAnswer.{HeaderAnswer}
@@ -22,7 +25,7 @@ use Rattle.types.specs.declared.Skipped.{Skipped}
 use Rattle.types.specs.declared.Skipped.the-variants as SK
 use Rattle.header.specs.Header.{headerFrom, headerRead, headerKind, headerArgument, headerLength}
 use Rattle.header.proofs.Fewest.{length-bounds}
-use Rattle.atom.specs.Atoms.{atomRead, atomFrom}
+use Rattle.atom.specs.Atoms.{atomRead, atomFrom, atomAfter, firstPlace}
 use Rattle.dictionary.specs.Steps.{forgotten, skipped, bodyAfter}
 use Rattle.dictionary.specs.Runs.{unlimited}
 use Rattle.dictionary.proofs.Bodies.{after-header, Passed, passed}
@@ -43,13 +46,15 @@ module _ (s : List ℕ) (at : ℕ) (within : at ≤ length s) (budget : Budget) 
   -- the header is whole: the body follows
   pub step-body : at + headerLength (drop at s) ≤ length s →
       skipped s at budget
-      ≡ bodyAfter (length s) (headerKind (drop at s)) (headerArgument (drop at s)) (at + headerLength (drop at s))
-      (budget .0)
+      ≡ bodyAfter (length s) (headerKind (drop at s)) (headerArgument (drop at s)) at
+      (at + headerLength (drop at s)) (budget .0)
   unfolding skipped atomRead
   step-body k =
-      ap (λ (h : HeaderAnswer). forgotten h (atomFrom W.ExactLent s budget [] h)) (header-whole k)
-      ∙ after-header s (headerArgument (drop at s)) (record { 0 = at + headerLength (drop at s) }) budget
-      (headerKind (drop at s)) k
+      ap (λ (h : HeaderAnswer). forgotten (atomFrom W.ExactLent s (firstPlace s at) budget [] h)) (header-whole k)
+      ∙ ap (λ (n : ℕ). forgotten (atomAfter W.ExactLent s (headerKind (drop at s)) (headerArgument (drop at s))
+      (record { 0 = n }) (record { 0 = at + headerLength (drop at s) }) budget [])) (place-same (length s) at within)
+      ∙ after-header s (headerArgument (drop at s)) (record { 0 = at }) (record { 0 = at + headerLength (drop at s) })
+      budget (headerKind (drop at s)) k
 
 -- what an atom costs is at most 4/3 of its body bytes
 number-price : (count : ℕ) (t u : Bool) → eqb count 3 ≡ t → eqb count 6 ≡ u → 3 * pick t 4 (pick u 8 count) ≤ 4 * count
@@ -92,36 +97,35 @@ charge-word K.Map arg h = omega arith
 charge-word K.Symbol arg h = omega arith
 charge-word K.Bytes arg h = omega arith
 
--- the step goes past an atom: to a place, with so much of the budget left, over a body that starts there and is a
--- string or not
-pub record Past (s : List ℕ) (at : ℕ) (budget : Budget) (place : Place) (rest : Budget) (body : Place) (string : Bool)
+-- the step goes past an atom: to a place, with so much of the budget left; the atom stands there and is a string or not
+pub record Past (s : List ℕ) (at : ℕ) (budget : Budget) (place : Place) (rest : Budget) (places : Places) (string : Bool)
     : Type 0
   where
-    pub is : skipped s at budget ≡ SK.Past place rest body string
+    pub is : skipped s at budget ≡ SK.Past place rest places string
 
 -- THE STEP GOES FORWARD: an atom takes a byte at least and never passes the end; the budget never rises
-pub record Forward (s : List ℕ) (at left place rest body : ℕ) : Type 0 where
-  pub takes : at < body
-  pub after : body ≤ place
+pub record Forward (s : List ℕ) (at left place rest : ℕ) (places : Places) : Type 0 where
+  pub takes : at < places .body .0
+  pub after : places .body .0 ≤ place
   pub inside : place ≤ length s
   pub falls : rest ≤ left
-  pub costs : 3 * (left - rest) ≤ 4 * (place - body)
+  pub costs : 3 * (left - rest) ≤ 4 * (place - places .body .0)
 
-forward-body : (s : List ℕ) (at len charge left place rest body b : ℕ) (string t allowed : Bool) → at < b →
-    3 * charge ≤ 4 * len → Passed (length s) b left string len charge allowed place rest body t →
-    Forward s at left place rest body
-forward-body s at len charge left place rest body b string t allowed h k p =
+forward-body : (s : List ℕ) (at len charge left place rest b : ℕ) (places : Places) (string t allowed : Bool) →
+    at < b → 3 * charge ≤ 4 * len → Passed (length s) at b left string len charge allowed place rest places t →
+    Forward s at left place rest places
+forward-body s at len charge left place rest b places string t allowed h k p =
     let e = p .ends in
     let f = p .leaves in
-    let g = p .starts in
+    let g : places .body .0 ≡ b = ap (λ (x : Places). x .body .0) (p .stands) in
     let i = p .is-whole in
     let j = p .afforded in
     record { takes = omega arith; after = omega arith; inside = omega arith; falls = omega arith; costs = omega arith }
 
-module _ (s : List ℕ) (at : ℕ) (within : at ≤ length s) (budget : Budget) (place : Place) (rest : Budget) (body : Place)
-    (t : Bool) where
+module _ (s : List ℕ) (at : ℕ) (within : at ≤ length s) (budget : Budget) (place : Place) (rest : Budget)
+    (places : Places) (t : Bool) where
   forward-at : (v : Bool) → leb (at + headerLength (drop at s)) (length s) ≡ v →
-      Past s at budget place rest body t → Forward s at (budget .0) (place .0) (rest .0) (body .0)
+      Past s at budget place rest places t → Forward s at (budget .0) (place .0) (rest .0) places
   forward-at false h e =
       let x = sym (e .is) ∙ step-cut s at within budget (leb-false (at + headerLength (drop at s)) (length s) h) in
       absurd (false≢true cc)
@@ -130,64 +134,64 @@ module _ (s : List ℕ) (at : ℕ) (within : at ≤ length s) (budget : Budget) 
       let k = leb-true (at + headerLength l) (length s) h in
       let x = sym (step-body s at within budget k) ∙ e .is in
       let one = length-bounds l .0 in
-      forward-body s at _ _ (budget .0) _ _ _ (at + headerLength l) _ t _ (omega arith)
-      (price-bound (headerKind l) (headerArgument l)) (passed _ _ _ _ _ _ _ place rest body t _ x)
+      forward-body s at _ _ (budget .0) _ _ (at + headerLength l) places _ t _ (omega arith)
+      (price-bound (headerKind l) (headerArgument l)) (passed _ _ _ _ _ _ _ _ place rest places t _ x)
 
-  pub forward : Past s at budget place rest body t → Forward s at (budget .0) (place .0) (rest .0) (body .0)
+  pub forward : Past s at budget place rest places t → Forward s at (budget .0) (place .0) (rest .0) places
   forward e = forward-at (leb (at + headerLength (drop at s)) (length s)) refl e
 
 -- what the loops are told of a step that passed an atom, by `skip_atom` or by the first byte alone, and what follows of
 -- it
-abbrev pub Told : {X : Type 0} → (List ℕ → ℕ → Budget → X) → (Place → Budget → Place → Bool → X) →
-    (List ℕ → ℕ → Budget → Place → Budget → Place → Bool → Type 0) → Type 0
+abbrev pub Told : {X : Type 0} → (List ℕ → ℕ → Budget → X) → (Place → Budget → Places → Bool → X) →
+    (List ℕ → ℕ → Budget → Place → Budget → Places → Bool → Type 0) → Type 0
 Told {X} step past P =
-    (s : List ℕ) (at : ℕ) (left : Budget) (r : X) (place : Place) (rest : Budget) (body : Place) (t : Bool) →
-    r ≡ step s at left → r ≡ past place rest body t → at < length s → P s at left place rest body t
+    (s : List ℕ) (at : ℕ) (left : Budget) (r : X) (place : Place) (rest : Budget) (places : Places) (t : Bool) →
+    r ≡ step s at left → r ≡ past place rest places t → at < length s → P s at left place rest places t
 
-abbrev pub Telling : {X : Type 0} → (List ℕ → ℕ → Budget → X) → (Place → Budget → Place → Bool → X) → Type 0
+abbrev pub Telling : {X : Type 0} → (List ℕ → ℕ → Budget → X) → (Place → Budget → Places → Bool → X) → Type 0
 Telling step past =
-    (s : List ℕ) (at : ℕ) (left : Budget) (place : Place) (rest : Budget) (body : Place) (t : Bool) →
-    step s at left ≡ past place rest body t → skipped s at left ≡ SK.Past place rest body t
+    (s : List ℕ) (at : ℕ) (left : Budget) (place : Place) (rest : Budget) (places : Places) (t : Bool) →
+    step s at left ≡ past place rest places t → skipped s at left ≡ SK.Past place rest places t
 
 pub told : {X : Type 0} (step : List ℕ → ℕ → Budget → X) (past : Place → Budget → Place → Bool → X) →
-    Telling step past → (P : List ℕ → ℕ → Budget → Place → Budget → Place → Bool → Type 0) →
-    ((s : List ℕ) (at : ℕ) (left : Budget) (place : Place) (rest : Budget) (body : Place) (t : Bool) →
-    at < length s → Past s at left place rest body t → P s at left place rest body t) →
+    Telling step past → (P : List ℕ → ℕ → Budget → Place → Budget → Places → Bool → Type 0) →
+    ((s : List ℕ) (at : ℕ) (left : Budget) (place : Place) (rest : Budget) (places : Places) (t : Bool) →
+    at < length s → Past s at left place rest places t → P s at left place rest places t) →
     Told step past P
-told step past telling P f s at left r place rest body t q p h =
-    f s at left place rest body t h (record { is = telling s at left place rest body t (sym q ∙ p) })
+told step past telling P f s at left r place rest places t q p h =
+    f s at left place rest places t h (record { is = telling s at left place rest places t (sym q ∙ p) })
 
 pub by-step : Telling skipped SK.Past
-by-step s at left place rest body t e = e
+by-step s at left place rest places t e = e
 
 -- the body starts before its end, and both are within the source; the budget never rises, and fewer bytes are left
-abbrev pub Starts : List ℕ → ℕ → Budget → Place → Budget → Place → Bool → Type 0
-Starts s at left place rest body t = body .0 ≤ place .0
+abbrev pub Starts : List ℕ → ℕ → Budget → Place → Budget → Places → Bool → Type 0
+Starts s at left place rest places t = places .body .0 ≤ place .0
 
-abbrev pub Inside : List ℕ → ℕ → Budget → Place → Budget → Place → Bool → Type 0
-Inside s at left place rest body t = place .0 ≤ length s
+abbrev pub Inside : List ℕ → ℕ → Budget → Place → Budget → Places → Bool → Type 0
+Inside s at left place rest places t = place .0 ≤ length s
 
-abbrev pub Falls : List ℕ → ℕ → Budget → Place → Budget → Place → Bool → Type 0
-Falls s at left place rest body t = rest .0 ≤ left .0
+abbrev pub Falls : List ℕ → ℕ → Budget → Place → Budget → Places → Bool → Type 0
+Falls s at left place rest places t = rest .0 ≤ left .0
 
-abbrev pub Less : List ℕ → ℕ → Budget → Place → Budget → Place → Bool → Type 0
-Less s at left place rest body t = length s - place .0 < length s - at
+abbrev pub Less : List ℕ → ℕ → Budget → Place → Budget → Places → Bool → Type 0
+Less s at left place rest places t = length s - place .0 < length s - at
 
-module _ (s : List ℕ) (at : ℕ) (left : Budget) (place : Place) (rest : Budget) (body : Place) (t : Bool)
-    (h : at < length s) (p : Past s at left place rest body t) where
-  pub went : Forward s at (left .0) (place .0) (rest .0) (body .0)
-  went = forward s at (omega arith) left place rest body t p
+module _ (s : List ℕ) (at : ℕ) (left : Budget) (place : Place) (rest : Budget) (places : Places) (t : Bool)
+    (h : at < length s) (p : Past s at left place rest places t) where
+  pub went : Forward s at (left .0) (place .0) (rest .0) places
+  went = forward s at (omega arith) left place rest places t p
 
-  pub starts : Starts s at left place rest body t
+  pub starts : Starts s at left place rest places t
   starts = went .after
 
-  pub inside : Inside s at left place rest body t
+  pub inside : Inside s at left place rest places t
   inside = went .inside
 
-  pub falls : Falls s at left place rest body t
+  pub falls : Falls s at left place rest places t
   falls = went .falls
 
-  pub less : Less s at left place rest body t
+  pub less : Less s at left place rest places t
   less = let w = went in omega arith
 
 pub step-starts : Told skipped SK.Past Starts

@@ -11,12 +11,15 @@ use lib.ListN.{length, take, drop}
 use mir.Syntax.{w64}
 use mir.Val.{Fits}
 use Rattle.types.specs.Choice.{pick}
+use Rattle.types.specs.Counters.{noPlaces}
 use Rattle.types.specs.declared.Place.{Place}
+use Rattle.types.specs.declared.Places.{Places}
 use Rattle.types.specs.declared.Budget.{Budget}
 use Rattle.types.specs.declared.Refusal.{Refusal}
 use Rattle.types.specs.declared.Refusal.the-variants as R
 use Rattle.types.specs.declared.Skipped.{Skipped}
 use Rattle.types.specs.declared.Skipped.the-variants as SK
+use Rattle.types.specs.declared.Tallied.{Tallied}
 use Rattle.types.specs.declared.TallyAnswer.{TallyAnswer}
 use Rattle.types.specs.declared.TallyAnswer.the-variants as TA
 use Rattle.dictionary.specs.Letters.{letters}
@@ -28,34 +31,48 @@ use Rattle.dictionary.proofs.Steps.{step-falls, step-less}
 use Rattle.dictionary.proofs.Shorts.{by-first, short-starts, short-inside, short-falls, short-less}
 use Rattle.dictionary.proofs.Turns.{Walked, walk-begins, walk-on, walk-answers, tally-on, tally-stop, tally-end}
 
+-- what a tally holds: what it counted, and where the last atom stands
+pub record Held : Type 0 where
+  pub counts : Tallied
+  pub last : Places
+
+abbrev pub holding : Tallied → Places → Held
+holding counts last = record { counts = counts; last = last }
+
+abbrev pub tallying : ℕ → List ℕ → ℕ → Held → TallyAnswer
+tallying fuel s at x = tallyFrom fuel s at (x .counts) (x .last)
+
 -- so much is counted, the place is there, and the rest of the tally is the whole one's
-pub record Tallying (s : List ℕ) (atoms body charge signs at : ℕ) : Type 0 where
-  pub walked : Walked tallyFrom s (tallyFrom (suc (length s)) s 0 nothing) atoms at (tallied atoms body charge signs)
+pub record Tallying (s : List ℕ) (atoms body charge signs at : ℕ) (last : Places) : Type 0 where
+  pub walked : Walked tallying s (tallyFrom (suc (length s)) s 0 nothing noPlaces) atoms at
+      (holding (tallied atoms body charge signs) last)
   pub low : body ≤ at
   pub costs : 3 * charge ≤ 4 * body
   pub lettered : signs ≤ at
 
-pub too-long : (s : List ℕ) → 16_777_216 < length s → TA.Refused R.TooLong ≡ tallyAll s
-too-long s h = simp (lt-ltb _ _ h)
+pub too-long : (s : List ℕ) (last : Places) → last ≡ noPlaces → 16_777_216 < length s →
+    TA.Refused last R.TooLong ≡ tallyAll s
+too-long s last e h = rw e (simp (lt-ltb _ _ h))
 
-pub tally-begins : (s : List ℕ) → Tallying s 0 0 0 0 0
-tally-begins s = record {
-  walked = walk-begins tallyFrom s nothing;
+pub tally-begins : (s : List ℕ) (last : Places) → last ≡ noPlaces → Tallying s 0 0 0 0 0 last
+tally-begins s last e = record {
+  walked = rw e (walk-begins tallying s (holding nothing noPlaces));
   low = omega arith;
   costs = omega arith;
   lettered = omega arith;
 }
 
-module _ (s : List ℕ) (at : ℕ) (left : Budget) (place : Place) (rest : Budget) (from : Place) (string : Bool)
-    (h : at < length s) (p : Past s at left place rest from string) (full : left ≡ record { 0 = unlimited })
-    (atoms body charge signs : ℕ) (i : Tallying s atoms body charge signs at) where
+module _ (s : List ℕ) (at : ℕ) (left : Budget) (place : Place) (rest : Budget) (places : Places) (string : Bool)
+    (h : at < length s) (p : Past s at left place rest places string) (full : left ≡ record { 0 = unlimited })
+    (atoms body charge signs : ℕ) (last : Places) (i : Tallying s atoms body charge signs at last) where
   -- an atom that is passed, with so many letters
-  passed : (n : ℕ) → n + from .0 ≤ place .0 →
-      n ≡ pick string (letters (take (place .0 - from .0) (drop (from .0) s))) 0 →
-      Tallying s (atoms + 1) (body + (place .0 - from .0)) (charge + (unlimited - rest .0)) (signs + n) (place .0)
+  passed : (n : ℕ) → n + places .body .0 ≤ place .0 →
+      n ≡ pick string (letters (take (place .0 - places .body .0) (drop (places .body .0) s))) 0 →
+      Tallying s (atoms + 1) (body + (place .0 - places .body .0)) (charge + (unlimited - rest .0)) (signs + n)
+      (place .0) places
   passed n most e =
-      let all : Past s at (record { 0 = unlimited }) place rest from string = record { is = rw (← full) (p .is) } in
-      let w = forward s at (omega arith) (record { 0 = unlimited }) place rest from string all in
+      let all : Past s at (record { 0 = unlimited }) place rest places string = record { is = rw (← full) (p .is) } in
+      let w = forward s at (omega arith) (record { 0 = unlimited }) place rest places string all in
       let f = i .walked .few in
       let l = i .low in
       let c = i .costs in
@@ -63,8 +80,9 @@ module _ (s : List ℕ) (at : ℕ) (left : Budget) (place : Place) (rest : Budge
       record {
         walked =
             rw e
-            (walk-on tallyFrom s _ atoms at _ (i .walked) (record { 0 = unlimited }) place rest from string all _
-            (λ fuel later k. tally-on s fuel later at _ k place rest from string h all));
+            (walk-on tallying s _ atoms at _ (i .walked) (record { 0 = unlimited }) place rest places string all
+            (holding _ places)
+            (λ fuel later k. tally-on s fuel later at _ last k place rest places string h all));
         low = omega arith;
         costs = omega arith;
         lettered = omega arith;
@@ -75,59 +93,62 @@ module _ (s : List ℕ) (at : ℕ) (left : Budget) (place : Place) (rest : Budge
     spent : left .0 ≡ unlimited
     spent = ap (λ (b : Budget). b .0) full
 
-    body-low : Fits w64 (body + (place .0 - from .0))
-    body-low = let w = went s at left place rest from string h p in let l = i .low in omega arith
+    body-low : Fits w64 (body + (place .0 - places .body .0))
+    body-low = let w = went s at left place rest places string h p in let l = i .low in omega arith
 
     charge-low : Fits w64 (charge + (unlimited - rest .0))
     charge-low =
-        let w = went s at left place rest from string h p in
+        let w = went s at left place rest places string h p in
         let e = spent in
         let l = i .low in
         let c = i .costs in
         omega arith
 
-    letters-low : (n : ℕ) → n + from .0 ≤ place .0 → Fits w64 (signs + n)
-    letters-low n most = let w = went s at left place rest from string h p in let m = i .lettered in omega arith
+    letters-low : (n : ℕ) → n + places .body .0 ≤ place .0 → Fits w64 (signs + n)
+    letters-low n most = let w = went s at left place rest places string h p in let m = i .lettered in omega arith
 
 -- what the loop asks of an atom passed, by the step or by its first byte
-abbrev BodyFits : List ℕ → ℕ → Budget → Place → Budget → Place → Bool → Type 0
-BodyFits s at left place rest from string =
-    (atoms body charge signs : ℕ) → Tallying s atoms body charge signs at → left ≡ record { 0 = unlimited } →
-    length s ≤ 16_777_216 → Fits w64 (body + (place .0 - from .0))
+abbrev BodyFits : List ℕ → ℕ → Budget → Place → Budget → Places → Bool → Type 0
+BodyFits s at left place rest places string =
+    (atoms body charge signs : ℕ) (last : Places) → Tallying s atoms body charge signs at last →
+    left ≡ record { 0 = unlimited } → length s ≤ 16_777_216 → Fits w64 (body + (place .0 - places .body .0))
 
-abbrev ChargeFits : List ℕ → ℕ → Budget → Place → Budget → Place → Bool → Type 0
-ChargeFits s at left place rest from string =
-    (atoms body charge signs : ℕ) → Tallying s atoms body charge signs at → left ≡ record { 0 = unlimited } →
-    length s ≤ 16_777_216 → Fits w64 (charge + (unlimited - rest .0))
+abbrev ChargeFits : List ℕ → ℕ → Budget → Place → Budget → Places → Bool → Type 0
+ChargeFits s at left place rest places string =
+    (atoms body charge signs : ℕ) (last : Places) → Tallying s atoms body charge signs at last →
+    left ≡ record { 0 = unlimited } → length s ≤ 16_777_216 → Fits w64 (charge + (unlimited - rest .0))
 
-abbrev LettersFit : List ℕ → ℕ → Budget → Place → Budget → Place → Bool → Type 0
-LettersFit s at left place rest from string =
-    (atoms body charge signs : ℕ) → Tallying s atoms body charge signs at → left ≡ record { 0 = unlimited } →
-    length s ≤ 16_777_216 → (n : ℕ) → n + from .0 ≤ place .0 → Fits w64 (signs + n)
+abbrev LettersFit : List ℕ → ℕ → Budget → Place → Budget → Places → Bool → Type 0
+LettersFit s at left place rest places string =
+    (atoms body charge signs : ℕ) (last : Places) → Tallying s atoms body charge signs at last →
+    left ≡ record { 0 = unlimited } → length s ≤ 16_777_216 → (n : ℕ) → n + places .body .0 ≤ place .0 →
+    Fits w64 (signs + n)
 
-abbrev Tallies : List ℕ → ℕ → Budget → Place → Budget → Place → Bool → Type 0
-Tallies s at left place rest from string =
-    (atoms body charge signs : ℕ) → Tallying s atoms body charge signs at → left ≡ record { 0 = unlimited } →
-    (n : ℕ) → n + from .0 ≤ place .0 → n ≡ pick string (letters (take (place .0 - from .0) (drop (from .0) s))) 0 →
-    Tallying s (atoms + 1) (body + (place .0 - from .0)) (charge + (unlimited - rest .0)) (signs + n) (place .0)
+abbrev Tallies : List ℕ → ℕ → Budget → Place → Budget → Places → Bool → Type 0
+Tallies s at left place rest places string =
+    (atoms body charge signs : ℕ) (last : Places) → Tallying s atoms body charge signs at last →
+    left ≡ record { 0 = unlimited } → (n : ℕ) → n + places .body .0 ≤ place .0 →
+    n ≡ pick string (letters (take (place .0 - places .body .0) (drop (places .body .0) s))) 0 →
+    Tallying s (atoms + 1) (body + (place .0 - places .body .0)) (charge + (unlimited - rest .0)) (signs + n)
+    (place .0) places
 
-module _ (s : List ℕ) (at : ℕ) (left : Budget) (place : Place) (rest : Budget) (from : Place) (string : Bool)
-    (h : at < length s) (p : Past s at left place rest from string) where
-  fits-body : BodyFits s at left place rest from string
-  fits-body atoms body charge signs i full l =
-      body-low s at left place rest from string h p full atoms body charge signs i l
+module _ (s : List ℕ) (at : ℕ) (left : Budget) (place : Place) (rest : Budget) (places : Places) (string : Bool)
+    (h : at < length s) (p : Past s at left place rest places string) where
+  fits-body : BodyFits s at left place rest places string
+  fits-body atoms body charge signs last i full l =
+      body-low s at left place rest places string h p full atoms body charge signs last i l
 
-  fits-charge : ChargeFits s at left place rest from string
-  fits-charge atoms body charge signs i full l =
-      charge-low s at left place rest from string h p full atoms body charge signs i l
+  fits-charge : ChargeFits s at left place rest places string
+  fits-charge atoms body charge signs last i full l =
+      charge-low s at left place rest places string h p full atoms body charge signs last i l
 
-  fits-letters : LettersFit s at left place rest from string
-  fits-letters atoms body charge signs i full l n most =
-      letters-low s at left place rest from string h p full atoms body charge signs i l n most
+  fits-letters : LettersFit s at left place rest places string
+  fits-letters atoms body charge signs last i full l n most =
+      letters-low s at left place rest places string h p full atoms body charge signs last i l n most
 
-  tallies : Tallies s at left place rest from string
-  tallies atoms body charge signs i full n most e =
-      passed s at left place rest from string h p full atoms body charge signs i n most e
+  tallies : Tallies s at left place rest places string
+  tallies atoms body charge signs last i full n most e =
+      passed s at left place rest places string h p full atoms body charge signs last i n most e
 
 pub body-fits : Told skipped SK.Past BodyFits
 body-fits = told skipped SK.Past by-step BodyFits fits-body
@@ -153,23 +174,25 @@ short-letters-fit = told shortStep SH.Past by-first LettersFit fits-letters
 pub short-tally : Told shortStep SH.Past Tallies
 short-tally = told shortStep SH.Past by-first Tallies tallies
 
-module _ (s : List ℕ) (atoms body charge signs : ℕ) (at : Place) (i : Tallying s atoms body charge signs (at .0)) where
+module _ (s : List ℕ) (atoms body charge signs : ℕ) (at : Place) (last : Places)
+    (i : Tallying s atoms body charge signs (at .0) last) where
   -- refused by the step
   pub tally-stops : (r : Skipped) (end : Place) (rest : Budget) (why : Refusal) → at .0 < length s →
       r ≡ skipped s (at .0) (record { 0 = unlimited }) → length s ≤ 16_777_216 → r ≡ SK.Refused end rest why →
-      TA.Stopped at why ≡ tallyAll s
+      TA.Stopped last why at ≡ tallyAll s
   tally-stops r end rest why h q l p =
       rw (le-ltb _ _ l)
-      (walk-answers tallyFrom s _ atoms (at .0) _ (i .walked) _
-      (λ fuel later k. tally-stop s fuel later (at .0) _ k end rest why h (sym q ∙ p)))
+      (walk-answers tallying s _ atoms (at .0) _ (i .walked) _
+      (λ fuel later k. tally-stop s fuel later (at .0) _ last k end rest why h (sym q ∙ p)))
 
   -- the end of the file
   pub tally-ends : (r : TallyAnswer) → length s ≤ 16_777_216 → length s ≤ at .0 →
-      r ≡ TA.Done (tallied atoms body charge signs) → r ≡ tallyAll s
+      r ≡ TA.Done last (tallied atoms body charge signs) → r ≡ tallyAll s
   tally-ends r l h e =
       e
       ∙ rw (le-ltb _ _ l)
-      (walk-answers tallyFrom s _ atoms (at .0) _ (i .walked) _ (λ fuel later k. tally-end s fuel later (at .0) _ k h))
+      (walk-answers tallying s _ atoms (at .0) _ (i .walked) _
+      (λ fuel later k. tally-end s fuel later (at .0) _ last k h))
 
 pub ruleset step-passed =
     (step-starts, step-inside, step-falls, step-less, body-fits, charge-fits, letters-fit, step-tally)

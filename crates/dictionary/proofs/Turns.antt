@@ -9,17 +9,15 @@ use lib.ListN.{length}
 use borrow.Author.Tests.{lt-ltb, le-ltb}
 use Rattle.types.specs.declared.Way.the-variants as W
 use Rattle.types.specs.declared.Place.{Place}
+use Rattle.types.specs.declared.Places.{Places}
 use Rattle.types.specs.declared.Budget.{Budget}
 use Rattle.types.specs.declared.Refusal.{Refusal}
-use Rattle.types.specs.declared.HeaderAnswer.{HeaderAnswer}
-use Rattle.types.specs.declared.HeaderAnswer.the-variants as H
 use Rattle.types.specs.declared.AtomAnswer.{AtomAnswer}
 use Rattle.types.specs.declared.AtomAnswer.the-variants as A
 use Rattle.types.specs.declared.Skipped.the-variants as SK
 use Rattle.types.specs.declared.Ran.the-variants as RN
 use Rattle.types.specs.declared.Tallied.{Tallied}
 use Rattle.types.specs.declared.TallyAnswer.the-variants as TA
-use Rattle.header.specs.Header.{headerRead}
 use Rattle.atom.specs.Atoms.{atomRead}
 use Rattle.dictionary.specs.Steps.{forgotten, skipped}
 use Rattle.dictionary.proofs.Steps.{Past, forward}
@@ -27,71 +25,70 @@ use Rattle.dictionary.specs.Runs.{afterAtom, runFrom, tallyFrom, added, 
 
 -- what the forgotten value leaves of an atom's read: a refusal as it was
 module _ (place : Place) (rest : Budget) (why : Refusal) where
-  read-refused : (h : HeaderAnswer) (a : AtomAnswer) → forgotten h a ≡ SK.Refused place rest why →
-      a ≡ A.Refused place rest why
-  read-refused (H.Read n k x) (A.Read p b y) e = absurd (false≢true cc)
-  read-refused (H.Read n k x) (A.Refused p b r) e = cc
-  read-refused (H.Refused n q) (A.Read p b y) e = absurd (false≢true cc)
-  read-refused (H.Refused n q) (A.Refused p b r) e = cc
+  read-refused : (a : AtomAnswer) → forgotten a ≡ SK.Refused place rest why → a ≡ A.Refused place rest why
+  read-refused (A.Read p b y) e = absurd (false≢true cc)
+  read-refused (A.Refused p b r) e = cc
 
   pub step-refused : (s : List ℕ) (at : ℕ) (budget : Budget) → skipped s at budget ≡ SK.Refused place rest why →
       atomRead W.ExactLent s at budget [] ≡ A.Refused place rest why
   unfolding skipped
-  step-refused s at budget e = read-refused (headerRead W.ExactLent s at) (atomRead W.ExactLent s at budget []) e
+  step-refused s at budget e = read-refused (atomRead W.ExactLent s at budget []) e
 
--- and of one that was read where it ends, and the budget left
-module _ {X : Type 0} (on : Place → Budget → X) (stop : Place → Budget → Refusal → X) (place : Place) (rest : Budget)
+-- and of one that was read where it ends, the budget left and its places
+module _ {X : Type 0} (on : Place → Budget → Places → X) (stop : Place → Budget → Refusal → X) (place : Place)
+    (rest : Budget)
   where
-    read-past : (h : HeaderAnswer) (a : AtomAnswer) (body : Place) (t : Bool) →
-        forgotten h a ≡ SK.Past place rest body t → afterAtom a on stop ≡ on place rest
-    read-past (H.Read n k x) (A.Read p b y) body t e = cc
-    read-past (H.Read n k x) (A.Refused p b r) body t e = absurd (false≢true cc)
-    read-past (H.Refused n q) (A.Read p b y) body t e = cc
-    read-past (H.Refused n q) (A.Refused p b r) body t e = absurd (false≢true cc)
+    read-past : (a : AtomAnswer) (places : Places) (t : Bool) → forgotten a ≡ SK.Past place rest places t →
+        afterAtom a on stop ≡ on place rest places
+    read-past (A.Read p b y) places t e = cc
+    read-past (A.Refused p b r) places t e = absurd (false≢true cc)
 
     module _ (s : List ℕ) (at : ℕ) (budget : Budget) where
-      atom-past : (body : Place) (t : Bool) → Past s at budget place rest body t →
-          afterAtom (atomRead W.ExactLent s at budget []) on stop ≡ on place rest
+      atom-past : (places : Places) (t : Bool) → Past s at budget place rest places t →
+          afterAtom (atomRead W.ExactLent s at budget []) on stop ≡ on place rest places
       unfolding skipped
-      atom-past body t e = read-past (headerRead W.ExactLent s at) (atomRead W.ExactLent s at budget []) body t (e .is)
+      atom-past places t e = read-past (atomRead W.ExactLent s at budget []) places t (e .is)
 
       atom-refused : (why : Refusal) → skipped s at budget ≡ SK.Refused place rest why →
           afterAtom (atomRead W.ExactLent s at budget []) on stop ≡ stop place rest why
       atom-refused why e = ap (λ (a : AtomAnswer). afterAtom a on stop) (step-refused place rest why s at budget e)
 
 -- a turn of the run
-module _ (s : List ℕ) (fuel left at : ℕ) (budget : Budget) (atoms : ℕ) (enough : fuel ≡ suc left) where
-  pub run-on : (place : Place) (rest : Budget) (body : Place) (t : Bool) → at < length s →
-      Past s at budget place rest body t →
-      runFrom fuel s at budget atoms ≡ runFrom left s (place .0) rest (atoms + 1)
-  unfolding runFrom
-  run-on place rest body t h e = rw (enough, lt-ltb at (length s) h) (atom-past _ _ place rest s at budget body t e)
+module _ (s : List ℕ) (fuel left at : ℕ) (budget : Budget) (atoms : ℕ) (last : Places) (enough : fuel ≡ suc left)
+  where
+    pub run-on : (place : Place) (rest : Budget) (places : Places) (t : Bool) → at < length s →
+        Past s at budget place rest places t →
+        runFrom fuel s at budget atoms last ≡ runFrom left s (place .0) rest (atoms + 1) places
+    unfolding runFrom
+    run-on place rest places t h e =
+        rw (enough, lt-ltb at (length s) h) (atom-past _ _ place rest s at budget places t e)
 
-  pub run-stop : (place : Place) (rest : Budget) (why : Refusal) → at < length s →
-      skipped s at budget ≡ SK.Refused place rest why →
-      runFrom fuel s at budget atoms ≡ RN.Stopped place rest atoms why (record { 0 = at })
-  unfolding runFrom
-  run-stop place rest why h e = rw (enough, lt-ltb at (length s) h) (atom-refused _ _ place rest s at budget why e)
+    pub run-stop : (place : Place) (rest : Budget) (why : Refusal) → at < length s →
+        skipped s at budget ≡ SK.Refused place rest why →
+        runFrom fuel s at budget atoms last ≡ RN.Stopped place rest atoms last why (record { 0 = at })
+    unfolding runFrom
+    run-stop place rest why h e = rw (enough, lt-ltb at (length s) h) (atom-refused _ _ place rest s at budget why e)
 
-  pub run-end : length s ≤ at → runFrom fuel s at budget atoms ≡ RN.Done (record { 0 = at }) budget atoms
-  unfolding runFrom
-  run-end h = rw (enough, le-ltb at (length s) h) refl
+    pub run-end : length s ≤ at → runFrom fuel s at budget atoms last ≡ RN.Done (record { 0 = at }) budget atoms last
+    unfolding runFrom
+    run-end h = rw (enough, le-ltb at (length s) h) refl
 
 -- a turn of the tally
-module _ (s : List ℕ) (fuel left at : ℕ) (t : Tallied) (enough : fuel ≡ suc left) where
-  pub tally-on : (place : Place) (rest : Budget) (body : Place) (string : Bool) → at < length s →
-      Past s at (record { 0 = unlimited }) place rest body string →
-      tallyFrom fuel s at t ≡ tallyFrom left s (place .0) (added s t (place .0) (rest .0) (body .0) string)
+module _ (s : List ℕ) (fuel left at : ℕ) (t : Tallied) (last : Places) (enough : fuel ≡ suc left) where
+  pub tally-on : (place : Place) (rest : Budget) (places : Places) (string : Bool) → at < length s →
+      Past s at (record { 0 = unlimited }) place rest places string →
+      tallyFrom fuel s at t last
+      ≡ tallyFrom left s (place .0) (added s t (place .0) (rest .0) (places .body .0) string) places
   unfolding tallyFrom
-  tally-on place rest body string h e = rw (enough, lt-ltb at (length s) h, e .is) refl
+  tally-on place rest places string h e = rw (enough, lt-ltb at (length s) h, e .is) refl
 
   pub tally-stop : (place : Place) (rest : Budget) (why : Refusal) → at < length s →
       skipped s at (record { 0 = unlimited }) ≡ SK.Refused place rest why →
-      tallyFrom fuel s at t ≡ TA.Stopped (record { 0 = at }) why
+      tallyFrom fuel s at t last ≡ TA.Stopped last why (record { 0 = at })
   unfolding tallyFrom
   tally-stop place rest why h e = rw (enough, lt-ltb at (length s) h, e) refl
 
-  pub tally-end : length s ≤ at → tallyFrom fuel s at t ≡ TA.Done t
+  pub tally-end : length s ≤ at → tallyFrom fuel s at t last ≡ TA.Done last t
   unfolding tallyFrom
   tally-end h = rw (enough, le-ltb at (length s) h) refl
 
@@ -111,13 +108,13 @@ module _ {X Y : Type 0} (walk : ℕ → List ℕ → ℕ → X → Y) (s : List 
 
   module _ (all : Y) (atoms at : ℕ) (x : X) (w : Walked walk s all atoms at x) where
     -- a turn goes on, past an atom
-    pub walk-on : (budget : Budget) (place : Place) (rest : Budget) (body : Place) (t : Bool) →
-        Past s at budget place rest body t → (y : X) →
+    pub walk-on : (budget : Budget) (place : Place) (rest : Budget) (places : Places) (t : Bool) →
+        Past s at budget place rest places t → (y : X) →
         ((fuel left : ℕ) → fuel ≡ suc left → walk fuel s at x ≡ walk left s (place .0) y) →
         Walked walk s all (atoms + 1) (place .0) y
-    walk-on budget place rest body t e y turn =
+    walk-on budget place rest places t e y turn =
         let f = w .few in
-        let g = forward s at (w .within) budget place rest body t e in
+        let g = forward s at (w .within) budget place rest places t e in
         record {
           within = g .inside;
           few = omega arith;

@@ -10,6 +10,7 @@ use lib.Dec.{ltb}
 use lib.ListN.{length, take, drop, length-append, length-drop}
 use lib.Seq.{drop-drop, drop-append-seam, drop-append-le, take-at}
 use Rattle.types.specs.Choice.{pick}
+use Rattle.types.specs.Counters.{placesOf}
 use Rattle.types.specs.Forms.{known, isString, unknown}
 use Rattle.types.specs.declared.Kind.{Kind}
 use Rattle.types.specs.declared.Budget.{Budget}
@@ -20,7 +21,7 @@ use Rattle.types.specs.declared.Tallied.{Tallied}
 use Rattle.header.specs.Header.{headerKind, headerArgument, headerLength}
 use Rattle.header.proofs.Fewest.{length-bounds, argument-word}
 use Rattle.dictionary.specs.Letters.{letters}
-use Rattle.dictionary.specs.Wholes.{IsAtom, price, bodyBytes, lettersIn, Spoilt}
+use Rattle.dictionary.specs.Wholes.{IsAtom, price, bodyBytes, lettersIn, placesAt, Spoilt}
 use Rattle.dictionary.specs.Wholes.{cut-header, not-known, cut-body}
 use Rattle.dictionary.specs.Prices.{asked, Barred, header-cut, over-budget, form-unknown, body-cut}
 use Rattle.dictionary.specs.Steps.{skipped, bodyPast, bodyAfter}
@@ -29,11 +30,11 @@ use Rattle.dictionary.proofs.Bodies.{past-over, past-unknown, past-eof,
 use Rattle.dictionary.proofs.Steps.{Past, step-cut, step-body, charge-word}
 use Rattle.dictionary.proofs.Fronts.{Front, front}
 
-same-body : (n left : ℕ) (k l : Kind) (a b h i : ℕ) → k ≡ l → a ≡ b → h ≡ i →
-    bodyAfter n k a h left ≡ bodyAfter n l b i left
-same-body n left k l a b h i p q r =
-    ap (λ (x : Kind). bodyAfter n x a h left) p ∙ ap (λ (x : ℕ). bodyAfter n l x h left) q
-    ∙ ap (λ (x : ℕ). bodyAfter n l b x left) r
+same-body : (n first left : ℕ) (k l : Kind) (a b h i : ℕ) → k ≡ l → a ≡ b → h ≡ i →
+    bodyAfter n k a first h left ≡ bodyAfter n l b first i left
+same-body n first left k l a b h i p q r =
+    ap (λ (x : Kind). bodyAfter n x a first h left) p ∙ ap (λ (x : ℕ). bodyAfter n l x first h left) q
+    ∙ ap (λ (x : ℕ). bodyAfter n l b first x left) r
 
 -- the largest budget covers every charge
 pub price-word : (bytes : List ℕ) → price bytes ≤ unlimited
@@ -70,10 +71,10 @@ module _ (s : List ℕ) (at : ℕ) (within : at ≤ length s) (atom rest : List 
 
   body-there : (budget : Budget) →
       skipped s at budget
-      ≡ bodyAfter (length s) (headerKind atom) (headerArgument atom) (at + headerLength atom) (budget .0)
+      ≡ bodyAfter (length s) (headerKind atom) (headerArgument atom) at (at + headerLength atom) (budget .0)
   body-there budget =
       step-body s at within budget header-room
-      ∙ same-body (length s) (budget .0) (headerKind (drop at s)) (headerKind atom) (headerArgument (drop at s))
+      ∙ same-body (length s) at (budget .0) (headerKind (drop at s)) (headerKind atom) (headerArgument (drop at s))
       (headerArgument atom) (at + headerLength (drop at s)) (at + headerLength atom)
       (ap headerKind here ∙ its-front .same-kind) (ap headerArgument here ∙ its-front .same-argument)
       (ap (λ (n : ℕ). at + n) header-there)
@@ -83,20 +84,21 @@ module _ (s : List ℕ) (at : ℕ) (within : at ≤ length s) (atom rest : List 
 
   -- its charge is within the budget: it is passed, and costs its price
   pub atom-past : (budget : Budget) → price atom ≤ budget .0 →
-      Past s at budget (record { 0 = at + length atom }) (record { 0 = budget .0 - price atom })
-      (record { 0 = at + headerLength atom }) (isString (headerKind atom))
+      Past s at budget (record { 0 = at + length atom }) (record { 0 = budget .0 - price atom }) (placesAt at atom)
+      (isString (headerKind atom))
   atom-past budget h =
       let k : Kind = headerKind atom in
       let room : at + headerLength atom + bodyBytes atom ≤ length s = omega (arith, past-end, atom-within) in
       record {
         is =
             body-there budget
-            ∙ ap (λ (t : Bool). bodyPast (length s) (at + headerLength atom) (budget .0) (isString k) (bodyBytes atom)
-            (price atom) t (unknown k (headerArgument atom))) (w .its-kind)
-            ∙ past-whole (length s) (at + headerLength atom) (budget .0) (isString k) (bodyBytes atom) (price atom)
+            ∙ ap (λ (t : Bool). bodyPast (length s) at (at + headerLength atom) (budget .0) (isString k)
+            (bodyBytes atom) (price atom) t (unknown k (headerArgument atom))) (w .its-kind)
+            ∙ past-whole (length s) at (at + headerLength atom) (budget .0) (isString k) (bodyBytes atom) (price atom)
             (unknown k (headerArgument atom)) h room
             ∙ ap (λ (n : ℕ). SK.Past (record { 0 = n }) (record { 0 = budget .0 - price atom })
-            (record { 0 = at + headerLength atom }) (isString k)) past-end;
+            (placesOf (record { 0 = at }) (record { 0 = at + headerLength atom }) (record { 0 = n })) (isString k))
+            past-end;
       }
 
 -- what the tally adds for it
@@ -164,13 +166,13 @@ module _ (s : List ℕ) (at : ℕ) (within : at ≤ length s) (l : List ℕ) (he
   -- a header that is whole: the step is what the body does
   body-at : {t : Bool} → headerLength l ≤ length l → known (headerKind l) (headerArgument l) ≡ t →
       skipped s at (record { 0 = left })
-      ≡ bodyPast (length s) (at + headerLength l) left (isString (headerKind l)) (bodyBytes l) (price l) t
+      ≡ bodyPast (length s) at (at + headerLength l) left (isString (headerKind l)) (bodyBytes l) (price l) t
       (unknown (headerKind l) (headerArgument l))
   body-at h k =
       step-body s at within (record { 0 = left })
       (room-of (length s) at (headerLength (drop at s)) within (rw (← rest-length, here) h))
-      ∙ ap (λ (x : List ℕ). bodyAfter (length s) (headerKind x) (headerArgument x) (at + headerLength x) left) here
-      ∙ ap (λ (t : Bool). bodyPast (length s) (at + headerLength l) left (isString (headerKind l)) (bodyBytes l)
+      ∙ ap (λ (x : List ℕ). bodyAfter (length s) (headerKind x) (headerArgument x) at (at + headerLength x) left) here
+      ∙ ap (λ (t : Bool). bodyPast (length s) at (at + headerLength l) left (isString (headerKind l)) (bodyBytes l)
       (price l) t (unknown (headerKind l) (headerArgument l))) k
 
   -- the step refuses, with the refusal of what stands there
@@ -185,17 +187,17 @@ module _ (s : List ℕ) (at : ℕ) (within : at ≤ length s) (l : List ℕ) (he
   barred-refuses (over-budget h c) =
       let b : left ≡ left - 0 = omega arith in
       let e = body-at h refl
-      ∙ past-over (length s) (at + headerLength l) left (isString (headerKind l)) (bodyBytes l) (price l)
+      ∙ past-over (length s) at (at + headerLength l) left (isString (headerKind l)) (bodyBytes l) (price l)
       (unknown (headerKind l) (headerArgument l)) (known (headerKind l) (headerArgument l)) c in
       cc
   barred-refuses (form-unknown h c k) =
       body-at h k
-      ∙ past-unknown (length s) (at + headerLength l) left (isString (headerKind l)) (bodyBytes l) (price l)
+      ∙ past-unknown (length s) at (at + headerLength l) left (isString (headerKind l)) (bodyBytes l) (price l)
       (unknown (headerKind l) (headerArgument l)) c
   barred-refuses (body-cut h c k m) =
       let a = rest-end in
       let e = body-at h k
-      ∙ past-eof (length s) (at + headerLength l) left (isString (headerKind l)) (bodyBytes l) (price l)
+      ∙ past-eof (length s) at (at + headerLength l) left (isString (headerKind l)) (bodyBytes l) (price l)
       (unknown (headerKind l) (headerArgument l)) c
       (past-both (length s) at (headerLength l) (bodyBytes l) within (rw (← rest-length) m)) in
       cc

@@ -1,59 +1,56 @@
--- The step of a run: an atom read exactly, strings lent, and its value forgotten. Document 01, "Two ways of reading".
+-- The step of a run: an atom read exactly, strings lent, and its value forgotten. Document 01, "Two ways of reading";
+-- document 02, K1: it answers the same three places.
 use Prim.Native.Nat.{ℕ, _+_, _-_, _/_}
 use mathlib.Core.Bool.{Bool, true, false}
 use mathlib.Core.List.{List, []}
 use lib.Dec.{ltb, leb, eqb}
 use lib.ListN.{getD}
 use Rattle.types.specs.Choice.{pick}
+use Rattle.types.specs.Counters.{placesOf}
 use Rattle.types.specs.Forms.{known, bodyLength, chargeOf, isString, unknown}
 use Rattle.types.specs.declared.Way.the-variants as W
 use Rattle.types.specs.declared.Kind.{Kind}
 use Rattle.types.specs.declared.Budget.{Budget}
 use Rattle.types.specs.declared.Refusal.{Refusal}
 use Rattle.types.specs.declared.Refusal.the-variants as R
-use Rattle.types.specs.declared.HeaderAnswer.{HeaderAnswer}
-use Rattle.types.specs.declared.HeaderAnswer.the-variants as H
 use Rattle.types.specs.declared.AtomAnswer.{AtomAnswer}
 use Rattle.types.specs.declared.AtomAnswer.the-variants as A
 use Rattle.types.specs.declared.Skipped.{Skipped}
 use Rattle.types.specs.declared.Skipped.the-variants as SK
-use Rattle.header.specs.Header.{headerRead}
 use Rattle.atom.specs.Atoms.{atomRead}
 use Rattle.dictionary.specs.declared.Short.{Short}
 use Rattle.dictionary.specs.declared.Short.the-variants as SH
 
--- an atom's read with the value forgotten: what is left is where its body starts, and whether it is a string. (No atom
--- is read whose header was refused.)
-abbrev pub forgotten : HeaderAnswer → AtomAnswer → Skipped
-forgotten (H.Read next kind arg) (A.Read place rest atom) = SK.Past place rest next (isString kind)
-forgotten (H.Read next kind arg) (A.Refused place rest r) = SK.Refused place rest r
-forgotten (H.Refused end why) (A.Read place rest atom) = SK.Past place rest end false
-forgotten (H.Refused end why) (A.Refused place rest r) = SK.Refused place rest r
+-- an atom's read with the value forgotten: what is left is its places, and whether it is a string
+abbrev pub forgotten : AtomAnswer → Skipped
+forgotten (A.Read place rest atom) = SK.Past place rest (atom .places) (isString (atom .kind))
+forgotten (A.Refused place rest r) = SK.Refused place rest r
 
 -- THE STEP: `read_atom` with the value forgotten
 unfoldable pub skipped : List ℕ → ℕ → Budget → Skipped
-skipped source place budget =
-    forgotten (headerRead W.ExactLent source place) (atomRead W.ExactLent source place budget [])
+skipped source place budget = forgotten (atomRead W.ExactLent source place budget [])
 
--- What a body does in a source of `size` bytes, where it starts at `at` with so much of the budget left: "budget, then
--- count allowed, then end of input".
-unfoldable pub bodyPast : ℕ → ℕ → ℕ → Bool → ℕ → ℕ → Bool → Refusal → Skipped
-bodyPast size at left string len charge allowed why =
+-- What a body does in a source of `size` bytes, of an atom that starts at `first`, where the body starts at `at` with so
+-- much of the budget left: "budget, then count allowed, then end of input".
+unfoldable pub bodyPast : ℕ → ℕ → ℕ → ℕ → Bool → ℕ → ℕ → Bool → Refusal → Skipped
+bodyPast size first at left string len charge allowed why =
     pick (ltb left charge) (SK.Refused (record { 0 = at }) (record { 0 = left }) R.TooManyBytesRead)
     (pick allowed
     (pick (leb (at + len) size)
-    (SK.Past (record { 0 = at + len }) (record { 0 = left - charge }) (record { 0 = at }) string)
+    (SK.Past (record { 0 = at + len }) (record { 0 = left - charge })
+    (placesOf (record { 0 = first }) (record { 0 = at }) (record { 0 = at + len })) string)
     (SK.Refused (record { 0 = size }) (record { 0 = left - charge }) R.Eof))
     (SK.Refused (record { 0 = at }) (record { 0 = left - charge }) why))
 
 -- the same, by the kind and the argument of its header
-abbrev pub bodyAfter : ℕ → Kind → ℕ → ℕ → ℕ → Skipped
-bodyAfter size kind arg at left =
-    bodyPast size at left (isString kind) (bodyLength kind arg) (chargeOf kind arg) (known kind arg) (unknown kind arg)
+abbrev pub bodyAfter : ℕ → Kind → ℕ → ℕ → ℕ → ℕ → Skipped
+bodyAfter size kind arg first at left =
+    bodyPast size first at left (isString kind) (bodyLength kind arg) (chargeOf kind arg) (known kind arg)
+    (unknown kind arg)
 
 -- what a step tells of an atom that it goes past, and of no other
 abbrev pub pastAlone : Skipped → Short
-pastAlone (SK.Past place rest body string) = SH.Past place rest body string
+pastAlone (SK.Past place rest places string) = SH.Past place rest places string
 pastAlone (SK.Refused place rest r) = SH.Other
 
 -- the first bytes that are looked at: a UInt of one byte, a string or a sequence whose header is this byte alone

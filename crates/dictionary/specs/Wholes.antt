@@ -6,7 +6,9 @@ use mathlib.Core.Bool.{true, false}
 use mathlib.Core.List.{List, [], _∷_, _++_}
 use lib.ListN.{length, drop}
 use Rattle.types.specs.Choice.{pick}
+use Rattle.types.specs.Counters.{placesOf, noPlaces}
 use Rattle.types.specs.Forms.{known, bodyLength, chargeOf, isString, unknown}
+use Rattle.types.specs.declared.Places.{Places}
 use Rattle.types.specs.declared.Refusal.{Refusal}
 use Rattle.types.specs.declared.Refusal.the-variants as R
 use Rattle.header.specs.Header.{headerKind, headerArgument, headerLength}
@@ -38,6 +40,21 @@ pub data Atoms : List ℕ → List (List ℕ) → Type 0 where
 unfoldable pub total : (List ℕ → ℕ) → List (List ℕ) → ℕ
 total f [] = 0
 total f (atom ∷ atoms) = f atom + total f atoms
+
+-- where an atom's bytes stand that start at a place: "its first place, the place where its body starts and the place
+-- after it"
+abbrev pub placesAt : ℕ → List ℕ → Places
+placesAt at atom =
+    placesOf (record { 0 = at }) (record { 0 = at + headerLength atom }) (record { 0 = at + length atom })
+
+-- THE PLACES OF THE LAST OF THEM, which stand one after the other from a place on; those given if there is none
+unfoldable pub lastFrom : ℕ → Places → List (List ℕ) → Places
+lastFrom at last [] = last
+lastFrom at last (atom ∷ atoms) = lastFrom (at + length atom) (placesAt at atom) atoms
+
+-- "the three places of the last atom they read, all 0 if there was none"
+abbrev pub lastPlaces : List (List ℕ) → Places
+lastPlaces atoms = lastFrom 0 noPlaces atoms
 
 -- BYTES THAT START WITH NO SUCH ATOM, and the refusal of what stands there: the header is cut, or the atom is not
 -- known, or its body is cut

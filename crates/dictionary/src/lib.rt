@@ -1,10 +1,11 @@
 // A dictionary file: the step that builds no value, the run over a file's atoms, and the tally. Document 01, "Two ways
-// of reading" and "Tally".
+// of reading" and "Tally"; document 02, K1.
 ghost use mathlib.Core.Path.{_≡_};
 ghost use mathlib.Core.Bool.{true, false};
 ghost use Prim.Native.Nat.{_≤_, _<_, _+_, _-_};
 ghost use lib.ListN.{length, take, drop};
 ghost use Rattle.types.specs.Choice.{pick};
+ghost use Rattle.types.specs.Counters.{noPlaces};
 ghost use Rattle.types.specs.Forms.{numberCharge, unsupported};
 ghost use Rattle.types.specs.declared.Refusal.the-variants as R;
 ghost use Rattle.types.specs.declared.TallyAnswer.the-variants as TA;
@@ -17,6 +18,7 @@ use types::BudgetAnswer;
 use types::HeaderAnswer;
 use types::Kind;
 use types::Place;
+use types::Places;
 use types::Ran;
 use types::Refusal;
 use types::Skipped;
@@ -29,7 +31,7 @@ use types::Way;
 // What the run and the tally know of an atom by its first byte alone: what `skip_atom` answers of one that it goes
 // past, or nothing.
 enum Short {
-    Past(Place, Budget, Place, bool),
+    Past(Place, Budget, Places, bool),
     Other,
 }
 
@@ -39,12 +41,13 @@ fn skip_number(
     kind: Kind,
     count: u64,
     allowed: bool,
+    first: Place,
     at: Place,
     left: Budget,
 ) -> Skipped
     requires { ⌜ at .0 ≤ length (now source) ⌝ }
     ensures { λ r. ⌜ r ≡
-        bodyPast (length (now (source .entry))) (at .0) (left .0) false count (numberCharge count) allowed
+        bodyPast (length (now (source .entry))) (first .0) (at .0) (left .0) false count (numberCharge count) allowed
         (unsupported kind count) ⌝ }
 {
     let BudgetAnswer::Left(rest) = atom::update_budget(left, atom::in_memory_int_size(count)) else {
@@ -55,15 +58,22 @@ fn skip_number(
         if (room as u64) < count {
             return Skipped::Refused(Place(source.len()), rest, Refusal::Eof);
         }
-        return Skipped::Past(Place(at.0 + count as usize), rest, at, false);
+        let after = Place(at.0 + count as usize);
+        let places = Places {
+            first,
+            body: at,
+            after,
+        };
+        return Skipped::Past(after, rest, places, false);
     }
     return Skipped::Refused(at, rest, Refusal::unsupported(kind, count));
 }
 
 // A string's body.
-fn skip_bytes(source: &[u8], count: u64, at: Place, left: Budget) -> Skipped
+fn skip_bytes(source: &[u8], count: u64, first: Place, at: Place, left: Budget) -> Skipped
     requires { ⌜ at .0 ≤ length (now source) ⌝ }
-    ensures { λ r. ⌜ r ≡ bodyPast (length (now (source .entry))) (at .0) (left .0) true count count true R.Eof ⌝ }
+    ensures { λ r. ⌜ r ≡
+        bodyPast (length (now (source .entry))) (first .0) (at .0) (left .0) true count count true R.Eof ⌝ }
 {
     let BudgetAnswer::Left(rest) = atom::update_budget(left, count) else {
         return Skipped::Refused(at, left, Refusal::TooManyBytesRead);
@@ -72,21 +82,32 @@ fn skip_bytes(source: &[u8], count: u64, at: Place, left: Budget) -> Skipped
     if (room as u64) < count {
         return Skipped::Refused(Place(source.len()), rest, Refusal::Eof);
     }
-    return Skipped::Past(Place(at.0 + count as usize), rest, at, true);
+    let after = Place(at.0 + count as usize);
+    let places = Places {
+        first,
+        body: at,
+        after,
+    };
+    return Skipped::Past(after, rest, places, true);
 }
 
 // What follows a header, by its kind.
-fn skip_body(source: &[u8], kind: Kind, arg: u64, at: Place, left: Budget) -> Skipped
+fn skip_body(source: &[u8], kind: Kind, arg: u64, first: Place, at: Place, left: Budget) -> Skipped
     requires { ⌜ at .0 ≤ length (now source) ⌝ }
-    ensures { λ r. ⌜ r ≡ bodyAfter (length (now (source .entry))) kind arg (at .0) (left .0) ⌝ }
+    ensures { λ r. ⌜ r ≡ bodyAfter (length (now (source .entry))) kind arg (first .0) (at .0) (left .0) ⌝ }
 {
+    let alone = Places {
+        first,
+        body: at,
+        after: at,
+    };
     match kind {
-        Kind::Sequence => return Skipped::Past(at, left, at, false),
-        Kind::Map => return Skipped::Past(at, left, at, false),
-        Kind::Symbol => return Skipped::Past(at, left, at, false),
+        Kind::Sequence => return Skipped::Past(at, left, alone, false),
+        Kind::Map => return Skipped::Past(at, left, alone, false),
+        Kind::Symbol => return Skipped::Past(at, left, alone, false),
         Kind::Special => match Special::try_from(arg) {
             SpecialAnswer::Known(_) => {
-                return Skipped::Past(at, left, at, false);
+                return Skipped::Past(at, left, alone, false);
             }
             SpecialAnswer::Refused(refusal) => {
                 return Skipped::Refused(at, left, refusal);
@@ -94,13 +115,15 @@ fn skip_body(source: &[u8], kind: Kind, arg: u64, at: Place, left: Budget) -> Sk
         },
         Kind::Int | Kind::UInt => {
             let count = atom::count_of(arg);
-            return skip_number(source, kind, count, integer::allowed(count), at, left);
+            let allowed = integer::allowed(count);
+            return skip_number(source, kind, count, allowed, first, at, left);
         }
         Kind::Float => {
             let count = atom::count_of(arg);
-            return skip_number(source, kind, count, float::allowed(count), at, left);
+            let allowed = float::allowed(count);
+            return skip_number(source, kind, count, allowed, first, at, left);
         }
-        Kind::Bytes => return skip_bytes(source, arg, at, left),
+        Kind::Bytes => return skip_bytes(source, arg, first, at, left),
     }
 }
 
@@ -110,7 +133,8 @@ pub fn skip_atom(source: &[u8], place: Place, budget: Budget) -> Skipped
 {
     match header::read_atom_header(source, place, Way::ExactLent) {
         HeaderAnswer::Read(next, kind, arg) => {
-            return skip_body(source, kind, arg, next, budget);
+            let first = Place(place.within(source.len()));
+            return skip_body(source, kind, arg, first, next, budget);
         }
         HeaderAnswer::Refused(end, refusal) => {
             return Skipped::Refused(end, budget, refusal);
@@ -128,7 +152,8 @@ fn short_body(
     string: bool,
 ) -> Short
     requires { ⌜ at .0 < size ⌝ }
-    ensures { λ r. ⌜ r ≡ pastAlone (bodyPast size (at .0 + 1) (left .0) string (body .0) charge true R.Eof) ⌝ }
+    ensures { λ r. ⌜ r ≡
+        pastAlone (bodyPast size (at .0) (at .0 + 1) (left .0) string (body .0) charge true R.Eof) ⌝ }
 {
     let from = at.0 + 1;
     if ((size - from) as u64) < body.0 {
@@ -137,7 +162,13 @@ fn short_body(
     let BudgetAnswer::Left(rest) = atom::update_budget(left, charge) else {
         return Short::Other;
     };
-    return Short::Past(Place(from + body.0 as usize), rest, Place(from), string);
+    let after = Place(from + body.0 as usize);
+    let places = Places {
+        first: at,
+        body: Place(from),
+        after,
+    };
+    return Short::Past(after, rest, places, string);
 }
 
 // An atom that the run and the tally pass without asking `skip_atom`: a UInt of one byte, a string or a sequence whose
@@ -169,6 +200,17 @@ fn short_atom(source: &[u8], at: Place, left: Budget) -> Short
     return Short::Other;
 }
 
+// The last atom's places, before there is one.
+fn no_places() -> Places
+    ensures { λ r. ⌜ r ≡ noPlaces ⌝ }
+{
+    Places {
+        first: Place(0),
+        body: Place(0),
+        after: Place(0),
+    }
+}
+
 // Reads a file's atoms until its end or a refusal.
 pub fn run(source: &[u8], budget: Budget) -> Ran
     ensures { λ r. ⌜ r ≡ runAll (now (source .entry)) budget ⌝ }
@@ -176,28 +218,31 @@ pub fn run(source: &[u8], budget: Budget) -> Ran
     let mut atoms: u64 = 0;
     let mut at = Place(0);
     let mut left = budget;
+    let mut last = no_places();
     while at.0 < source.len() {
         match short_atom(source, at, left) {
-            Short::Past(end, rest, _, _) => {
+            Short::Past(end, rest, places, _) => {
                 atoms += 1;
                 at = end;
                 left = rest;
+                last = places;
                 continue;
             }
             Short::Other => {}
         }
         match skip_atom(source, at, left) {
-            Skipped::Past(next, rest, _, _) => {
+            Skipped::Past(next, rest, places, _) => {
                 atoms += 1;
                 at = next;
                 left = rest;
+                last = places;
             }
             Skipped::Refused(place, rest, refusal) => {
-                return Ran::Stopped(place, rest, atoms, refusal, at);
+                return Ran::Stopped(place, rest, atoms, last, refusal, at);
             }
         }
     }
-    return Ran::Done(at, left, atoms);
+    return Ran::Done(at, left, atoms, last);
 }
 
 // 1 for a letter, else 0: a choice without a branch, so that a loop over it takes many bytes at a time.
@@ -265,15 +310,16 @@ fn letters_of(source: &[u8], from: Place, to: Place, string: bool) -> u64
 }
 
 // The answer of a tally that met the file's end.
-fn counted(atoms: u64, body: BodyBytes, charge: u64, letters: u64) -> TallyAnswer
-    ensures { λ r. ⌜ r ≡ TA.Done (tallied atoms (body .0) charge letters) ⌝ }
+fn counted(last: Places, atoms: u64, body: BodyBytes, charge: u64, letters: u64) -> TallyAnswer
+    ensures { λ r. ⌜ r ≡ TA.Done last (tallied atoms (body .0) charge letters) ⌝ }
 {
-    TallyAnswer::Done(Tallied {
+    let held = Tallied {
         atoms,
         body,
         charge,
         letters,
-    })
+    };
+    TallyAnswer::Done(last, held)
 }
 
 // Counts a file's atoms, body bytes, charges and letters, or refuses at the first bad atom. Each atom is read with the
@@ -281,38 +327,39 @@ fn counted(atoms: u64, body: BodyBytes, charge: u64, letters: u64) -> TallyAnswe
 pub fn tally(source: &[u8]) -> TallyAnswer
     ensures { λ r. ⌜ r ≡ tallyAll (now (source .entry)) ⌝ }
 {
+    let mut last = no_places();
     if 16_777_216 < source.len() {
-        return TallyAnswer::Refused(Refusal::TooLong);
+        return TallyAnswer::Refused(last, Refusal::TooLong);
     }
+    let mut at = Place(0);
     let mut atoms: u64 = 0;
     let mut body = BodyBytes(0);
     let mut charge: u64 = 0;
     let mut letters: u64 = 0;
-    let mut at = Place(0);
     while at.0 < source.len() {
         match short_atom(source, at, Budget(0xFFFF_FFFF_FFFF_FFFF)) {
-            Short::Past(end, rest, from, string) => {
-                letters += letters_of(source, from, end, string);
-                body = BodyBytes(body.0 + (end.0 - from.0) as u64);
+            Short::Past(end, rest, places, string) => {
+                letters += letters_of(source, places.body, end, string);
+                body = BodyBytes(body.0 + (end.0 - places.body.0) as u64);
                 charge += 0xFFFF_FFFF_FFFF_FFFF - rest.0;
                 atoms += 1;
                 at = end;
+                last = places;
                 continue;
             }
             Short::Other => {}
         }
         match skip_atom(source, at, Budget(0xFFFF_FFFF_FFFF_FFFF)) {
-            Skipped::Past(place, rest, from, string) => {
-                letters += letters_of(source, from, place, string);
-                body = BodyBytes(body.0 + (place.0 - from.0) as u64);
+            Skipped::Past(place, rest, places, string) => {
+                letters += letters_of(source, places.body, place, string);
+                body = BodyBytes(body.0 + (place.0 - places.body.0) as u64);
                 charge += 0xFFFF_FFFF_FFFF_FFFF - rest.0;
                 atoms += 1;
                 at = place;
+                last = places;
             }
-            Skipped::Refused(_, _, refusal) => {
-                return TallyAnswer::Stopped(at, refusal);
-            }
+            Skipped::Refused(_, _, refusal) => return TallyAnswer::Stopped(last, refusal, at),
         }
     }
-    return counted(atoms, body, charge, letters);
+    return counted(last, atoms, body, charge, letters);
 }
