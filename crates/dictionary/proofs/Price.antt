@@ -540,4 +540,6 @@ last-at at last (one ∷ before) atom =
 
 pub last-is-last : (before : List (List ℕ)) (atom : List ℕ) →
     lastPlaces (before ++ (atom ∷ [])) ≡ placesAt (total length before) atom
-last-is-last before atom = last-at 0 noPlaces before atom
+last-is-last before atom =
+    let z : 0 + total length before ≡ total length before = omega arith in
+    last-at 0 noPlaces before atom ∙ ap (λ (n : ℕ). placesAt n atom) z

@@ -153,7 +153,7 @@ Telling step past =
     (s : List ℕ) (at : ℕ) (left : Budget) (place : Place) (rest : Budget) (places : Places) (t : Bool) →
     step s at left ≡ past place rest places t → skipped s at left ≡ SK.Past place rest places t
 
-pub told : {X : Type 0} (step : List ℕ → ℕ → Budget → X) (past : Place → Budget → Place → Bool → X) →
+pub told : {X : Type 0} (step : List ℕ → ℕ → Budget → X) (past : Place → Budget → Places → Bool → X) →
     Telling step past → (P : List ℕ → ℕ → Budget → Place → Budget → Places → Bool → Type 0) →
     ((s : List ℕ) (at : ℕ) (left : Budget) (place : Place) (rest : Budget) (places : Places) (t : Bool) →
     at < length s → Past s at left place rest places t → P s at left place rest places t) →

@@ -339,10 +339,10 @@ pub fn tally(source: &[u8]) -> TallyAnswer
     while at.0 < source.len() {
         match short_atom(source, at, Budget(0xFFFF_FFFF_FFFF_FFFF)) {
             Short::Past(end, rest, places, string) => {
-                letters += letters_of(source, places.body, end, string);
-                body = BodyBytes(body.0 + (end.0 - places.body.0) as u64);
-                charge += 0xFFFF_FFFF_FFFF_FFFF - rest.0;
                 atoms += 1;
+                letters += letters_of(source, places.body, end, string);
+                charge += 0xFFFF_FFFF_FFFF_FFFF - rest.0;
+                body = BodyBytes(body.0 + (end.0 - places.body.0) as u64);
                 at = end;
                 last = places;
                 continue;
@@ -351,10 +351,10 @@ pub fn tally(source: &[u8]) -> TallyAnswer
         }
         match skip_atom(source, at, Budget(0xFFFF_FFFF_FFFF_FFFF)) {
             Skipped::Past(place, rest, places, string) => {
-                letters += letters_of(source, places.body, place, string);
-                body = BodyBytes(body.0 + (place.0 - places.body.0) as u64);
-                charge += 0xFFFF_FFFF_FFFF_FFFF - rest.0;
                 atoms += 1;
+                letters += letters_of(source, places.body, place, string);
+                charge += 0xFFFF_FFFF_FFFF_FFFF - rest.0;
+                body = BodyBytes(body.0 + (place.0 - places.body.0) as u64);
                 at = place;
                 last = places;
             }

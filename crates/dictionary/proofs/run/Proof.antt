@@ -7,10 +7,10 @@ use Rattle.dictionary.proofs.run.Statement.{statement}
 use Rattle.dictionary.proofs.run.Tie as tie
 
 abbrev Inv-loop : tie.InvT-loop
-Inv-loop source atoms₀ at₀ left₀ atoms at left = Running source left₀ atoms (at .0) (left .0)
+Inv-loop source atoms₀ at₀ left₀ last₀ atoms at left last = Running source left₀ atoms (at .0) (left .0) last
 
 abbrev μ-loop : tie.MeasureT-loop
-μ-loop source atoms₀ at₀ left₀ atoms at left = length source - at .0
+μ-loop source atoms₀ at₀ left₀ last₀ atoms at left last = length source - at .0
 
 loop-again : tie.Need-loop-again Inv-loop μ-loop
 loop-again c = search run-laws
@@ -28,6 +28,7 @@ pub run-spec : {M : Type 1} → statement M
 run-spec =
     tie.close
     (tie.spec
-    Inv-loop μ-loop (λ c. search run-laws) (λ c κs. search run-laws) (λ c. search run-laws) (λ c. search run-laws)
-    (λ c. search run-laws) loop-again (λ c. search run-laws) (λ c κs. search run-laws) (λ c. search run-laws)
-    (λ c. search run-laws) (λ c. search run-laws) loop-again-2 (λ c. search run-laws) returns returns-2)
+    Inv-loop μ-loop (λ c κs. search run-laws) (λ c. search run-laws) (λ c κs. search run-laws) (λ c. search run-laws)
+    (λ c. search run-laws) (λ c. search run-laws) loop-again (λ c. search run-laws) (λ c κs. search run-laws)
+    (λ c. search run-laws) (λ c. search run-laws) (λ c. search run-laws) loop-again-2 (λ c. search run-laws) returns
+    returns-2)

@@ -13,5 +13,5 @@ pub skip-atom-spec : {M : Type 1} → statement M
 skip-atom-spec =
     tie.close
     (tie.spec
-    (λ c κs. search atom-ends) (λ c. search atom-ends) (λ c κs. search atom-ends) returns (λ c. search atom-ends)
-    returns-2)
+    (λ c κs. search atom-ends) (λ c. search atom-ends) (λ c κs. search atom-ends) (λ c κs. search atom-ends) returns
+    (λ c. search atom-ends) returns-2)

@@ -8,11 +8,11 @@ use Rattle.dictionary.proofs.tally.Statement.{statement}
 use Rattle.dictionary.proofs.tally.Tie as tie
 
 abbrev Inv-loop : tie.InvT-loop
-Inv-loop source atoms₀ body₀ charge₀ letters₀ at₀ atoms body charge letters at =
-    Tallying source atoms (body .0) charge letters (at .0)
+Inv-loop source last₀ at₀ atoms₀ body₀ charge₀ letters₀ last at atoms body charge letters =
+    Tallying source atoms (body .0) charge letters (at .0) last
 
 abbrev μ-loop : tie.MeasureT-loop
-μ-loop source atoms₀ body₀ charge₀ letters₀ at₀ atoms body charge letters at = length source - at .0
+μ-loop source last₀ at₀ atoms₀ body₀ charge₀ letters₀ last at atoms body charge letters = length source - at .0
 
 returns : tie.Need-returns Inv-loop μ-loop
 returns c = search tally-laws
@@ -34,10 +34,10 @@ pub tally-spec : {M : Type 1} → statement M
 tally-spec =
     tie.close
     (tie.spec
-    Inv-loop μ-loop returns (λ c. search tally-laws) (λ c κs. search tally-laws) (λ c. search tally-laws)
-    (λ c κs. search tally-laws) (λ c. search tally-laws) (λ c. search tally-laws) (λ c. search tally-laws)
-    (λ c. search tally-laws) (λ c. search tally-laws) (λ c. search tally-laws) (λ c. search tally-laws)
+    Inv-loop μ-loop (λ c κs. search tally-laws) returns (λ c. search tally-laws) (λ c κs. search tally-laws)
     (λ c. search tally-laws) (λ c. search tally-laws) (λ c κs. search tally-laws) (λ c. search tally-laws)
-    letters-of-requires-2 (λ c. search tally-laws) (λ c. search tally-laws) (λ c. search tally-laws)
-    (λ c. search tally-laws) (λ c. search tally-laws) (λ c. search tally-laws) (λ c. search tally-laws) loop-again-2
-    (λ c. search tally-laws) returns-2 (λ c κs. search tally-laws) returns-3)
+    (λ c. search tally-laws) (λ c. search tally-laws) (λ c. search tally-laws) (λ c. search tally-laws)
+    (λ c. search tally-laws) (λ c. search tally-laws) (λ c. search tally-laws) (λ c κs. search tally-laws)
+    (λ c. search tally-laws) (λ c. search tally-laws) letters-of-requires-2 (λ c. search tally-laws)
+    (λ c. search tally-laws) (λ c. search tally-laws) (λ c. search tally-laws) (λ c. search tally-laws)
+    (λ c. search tally-laws) loop-again-2 (λ c. search tally-laws) returns-2 (λ c κs. search tally-laws) returns-3)
