@@ -67,11 +67,8 @@ fn put_last(out: &mut [u8], reply: Reply, number: u64, last: Places) -> Reply {
     replay_wire::put_places(out, numbered, last)
 }
 
-fn tally(text: &[u8], cursor: Cursor, bytes: &mut [u8], out: &mut [u8]) -> Reply {
-    let decoded = replay_wire::read_bytes(text, cursor, bytes);
-    let reply = replay_wire::begin(text, decoded.cursor);
-    let count = decoded.count;
-    match dictionary::tally(&bytes[0..count]) {
+fn put_tally(out: &mut [u8], reply: Reply, answer: TallyAnswer) -> Reply {
+    match answer {
         TallyAnswer::Done(last, tallied) => {
             let told = put_last(out, reply, 0, last);
             return put_tallied(out, told, tallied);
@@ -88,14 +85,16 @@ fn tally(text: &[u8], cursor: Cursor, bytes: &mut [u8], out: &mut [u8]) -> Reply
     }
 }
 
-fn step(text: &[u8], cursor: Cursor, bytes: &mut [u8], out: &mut [u8]) -> Reply {
-    let budget = replay_wire::read_word(text, cursor);
-    let place = replay_wire::read_word(text, budget.cursor);
-    let decoded = replay_wire::read_bytes(text, place.cursor, bytes);
+fn tally(text: &[u8], cursor: Cursor, bytes: &mut [u8], out: &mut [u8]) -> Reply {
+    let decoded = replay_wire::read_bytes(text, cursor, bytes);
     let reply = replay_wire::begin(text, decoded.cursor);
     let count = decoded.count;
-    let at = Place(place.value as usize);
-    match dictionary::skip_atom(&bytes[0..count], at, Budget(budget.value)) {
+    let answer = dictionary::tally(&bytes[0..count]);
+    put_tally(out, reply, answer)
+}
+
+fn put_step(out: &mut [u8], reply: Reply, skipped: Skipped) -> Reply {
+    match skipped {
         Skipped::Past(after, left, places, string) => {
             let taken = replay_wire::taken_with(out, reply, after, left);
             let told = replay_wire::put_places(out, taken, places);
@@ -105,6 +104,17 @@ fn step(text: &[u8], cursor: Cursor, bytes: &mut [u8], out: &mut [u8]) -> Reply 
             return replay_wire::refused_with(out, reply, after, left, refusal);
         }
     }
+}
+
+fn step(text: &[u8], cursor: Cursor, bytes: &mut [u8], out: &mut [u8]) -> Reply {
+    let budget = replay_wire::read_word(text, cursor);
+    let place = replay_wire::read_word(text, budget.cursor);
+    let decoded = replay_wire::read_bytes(text, place.cursor, bytes);
+    let reply = replay_wire::begin(text, decoded.cursor);
+    let count = decoded.count;
+    let given = Place(place.value as usize);
+    let skipped = dictionary::skip_atom(&bytes[0..count], given, Budget(budget.value));
+    put_step(out, reply, skipped)
 }
 
 // Answers a request of this crate's codes, whose code was read. `bytes` holds its source.
