@@ -3,7 +3,8 @@
 use oracle::wire::{Reading, Way};
 
 use crate::call::{Call, Room};
-use crate::expected::{Judge, Said, WORDS};
+use crate::expected::{Judge, Said};
+use crate::ffi::POT_WORDS;
 use crate::lent::Lent;
 use crate::proved::{ask, halves, Slice, Slices};
 
@@ -36,7 +37,7 @@ impl Checker {
     }
 
     fn read_back(&mut self, call: &Call<'_>, written: &[u8]) {
-        let room = Room { words: WORDS, bytes: written.len() };
+        let room = Room { words: POT_WORDS, bytes: written.len() };
         for way in Way::ALL {
             let reading = Reading { way, place: 0, source: written };
             let read = match call {
@@ -54,15 +55,16 @@ impl Checker {
     /// One atom after another, past refused ones too, until the end or until the place stays. The three places of each
     /// rise or stay level.
     fn walk(&mut self, mut budget: u64, way: Way, source: &[u8], room: Room) {
-        let room = Room { words: room.words.max(WORDS), ..room };
+        let room = Room { words: room.words.max(POT_WORDS), ..room };
         let mut place = 0;
-        let mut last = vec![0; 3];
+        let mut last = [0; 3];
         for _ in 0..LONGEST_WALK {
             let call = Call::ReadAtom(budget, Reading { way, place, source });
             let said = self.compare(&call, room).expect("every atom has an answer");
             if said.number == 0 {
-                assert!(last.iter().zip(said.places()).all(|(old, new)| old <= new), "the places fall: {call:?}");
-                last = said.places().to_vec();
+                let level = last.into_iter().zip(said.places()).all(|(old, new)| old <= new);
+                assert!(level, "the places fall: {call:?}");
+                last = said.places();
             }
             let stays = said.words[0] == place;
             (place, budget) = (said.words[0], said.words[1]);
@@ -76,7 +78,7 @@ impl Checker {
     fn compare(&mut self, call: &Call<'_>, room: Room) -> Option<Said> {
         let full = self.judge.expected(call)?;
         let fits = self.with_room(call, full, room.bytes);
-        let short = room.words < WORDS;
+        let short = room.words < POT_WORDS;
         let said = if short { Said::new(NO_ROOM, &[], &[]) } else { fits };
         let words: Vec<u8> = said.words.iter().flat_map(|word| word.to_ne_bytes()).collect();
         let first_words = if short { &[][..] } else { &words };

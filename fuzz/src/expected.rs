@@ -7,38 +7,36 @@ use oracle::wire::{
 };
 
 use crate::call::{Call, Parts};
+use crate::ffi::{POT_AFTER, POT_BODY, POT_FIRST, POT_WORDS};
 use crate::proved::halves;
-
-/// How many words an answer has.
-pub const WORDS: usize = 12;
-/// The word of an atom's first place; behind it are where its body starts and the place after it.
-const FIRST: usize = 8;
 
 /// An answer: its number, its words, and the bytes that it leaves in the output or the scratch.
 #[derive(Debug, Clone, PartialEq, Eq)]
 pub struct Said {
     pub number: u64,
-    pub words: [u64; WORDS],
+    pub words: [u64; POT_WORDS],
     pub bytes: Vec<u8>,
 }
 
 impl Said {
     /// The answer of these words, and zeros behind them.
     pub fn new(number: u64, said: &[u64], bytes: &[u8]) -> Self {
-        let mut words = [0; WORDS];
+        let mut words = [0; POT_WORDS];
         words[..said.len()].copy_from_slice(said);
         Self { number, words, bytes: bytes.to_vec() }
     }
 
     /// The answer with the places of an atom.
     fn at(mut self, places: Places) -> Self {
-        self.words[FIRST..FIRST + 3].copy_from_slice(&[places.first, places.body, places.after]);
+        self.words[POT_FIRST] = places.first;
+        self.words[POT_BODY] = places.body;
+        self.words[POT_AFTER] = places.after;
         self
     }
 
     /// The three places that it says.
-    pub fn places(&self) -> &[u64] {
-        &self.words[FIRST..FIRST + 3]
+    pub const fn places(&self) -> [u64; 3] {
+        [self.words[POT_FIRST], self.words[POT_BODY], self.words[POT_AFTER]]
     }
 
     fn refused(refusal: Refusal) -> Self {
@@ -121,7 +119,7 @@ impl Judge {
     fn atom(&mut self, budget: u64, reading: Reading<'_>) -> Said {
         let mut said = self.unless_too_long(&Request::ReadAtom(budget, reading), budget, reading);
         if said.number == 0 && said.words[4] == FLOAT {
-            said.words[7] = stored(reading.source, said.words[FIRST + 1], said.words[3] + 1);
+            said.words[7] = stored(reading.source, said.words[POT_BODY], said.words[3] + 1);
         }
         said
     }

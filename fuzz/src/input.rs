@@ -6,14 +6,14 @@
 use oracle::wire::{Reading, Way, Writer};
 
 use crate::call::{Call, Parts, Room};
-use crate::expected::WORDS;
+use crate::ffi::POT_WORDS;
 
 const WIDE: u8 = 0xf0;
 /// How many calls there are: those of `Bytes::call`.
 const CALLS: u8 = 38;
 const FIRST_WRITER: u8 = 13;
 /// The largest room for words, some more than an answer has, and for bytes.
-const MOST_WORDS: u128 = WORDS as u128 + 4;
+const MOST_WORDS: u128 = POT_WORDS as u128 + 4;
 const BYTES: u128 = 8192;
 
 /// The call that the bytes stand for, and the room that it is lent.

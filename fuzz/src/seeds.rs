@@ -6,7 +6,7 @@ use std::path::Path;
 use oracle::wire::{Float, Integer, Reading, Request, Way};
 
 use crate::call::{Call, Parts, Room};
-use crate::expected::WORDS;
+use crate::ffi::POT_WORDS;
 use crate::input::encode;
 
 /// Writes an input for each line that an export answers, a vector or a request alone; says how many.
@@ -18,7 +18,7 @@ pub fn write_seeds(lines: impl BufRead, folder: &Path) -> io::Result<usize> {
         let text = line.split(" = ").next().unwrap_or_default();
         let Ok(request) = Request::parse(text.as_bytes(), &mut buffer) else { continue };
         for call in calls(&request) {
-            let room = Room { words: WORDS, bytes: call.source().len() + 32 };
+            let room = Room { words: POT_WORDS, bytes: call.source().len() + 32 };
             std::fs::write(folder.join(format!("{count:06}")), encode(&call, room))?;
             count += 1;
         }
