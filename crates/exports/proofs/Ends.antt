@@ -45,7 +45,7 @@ use Rattle.atom.specs.Charges.{budgetAfter}
 use Rattle.atom.specs.Atoms.{atomRead, atomScratch, scratchCharged, scratchFrom}
 use Rattle.float_cast.specs.Integral.{asInteger}
 use Rattle.header.specs.Signature.{versionRead}
-use Rattle.words.specs.Layout.{Said, short, numberOf, wordsOf, unlessShort, saidWord, saidWritten, saidRefused}
+use Rattle.words.specs.Layout.{Said, wordCount, short, numberOf, wordsOf, unlessShort, saidWord, saidWritten, saidRefused}
 use Rattle.words.specs.Layout.{saidVersion}
 use Rattle.words.specs.Layout.{saidAtom, saidSkipped, saidRan, saidTally, saidCast, saidAsInteger, saidAsF32, saidAsF64}
 use Rattle.recast.specs.Recasts.{ofInteger}
@@ -53,12 +53,12 @@ use Rattle.exports.specs.Named.{ofKind, ofSpecial}
 
 -- What is lent of a buffer: all of it where the words have room, and nothing where they have none.
 abbrev grantedOf : ℕ → ℕ → ℕ
-grantedOf words room = pick (ltb words 8) 0 room
+grantedOf words room = pick (ltb words wordCount) 0 room
 
-pub no-room : (words room : ℕ) → words < 8 → 0 ≡ grantedOf words room
+pub no-room : (words room : ℕ) → words < wordCount → 0 ≡ grantedOf words room
 no-room words room h = simp (lt-ltb _ _ h)
 
-pub all-room : (words room : ℕ) → 8 ≤ words → room ≡ grantedOf words room
+pub all-room : (words room : ℕ) → wordCount ≤ words → room ≡ grantedOf words room
 all-room words room h = simp (le-ltb _ _ h)
 
 pub ruleset granted-ends = (no-room, all-room, needs)
@@ -135,7 +135,7 @@ module _ (words old : List ℕ) (room : ℕ) (g : room ≡ grantedOf (length wor
     number-of r e = e ∙ said-by (λ (l : List ℕ). f l .number) 9 (short words) refl
 
     words-of : (new : List ℕ) → new ≡ wordsOf (f (take (room - 0) old)) words → new ≡ wordsOf (f old) words
-    words-of new e = e ∙ said-by (λ (l : List ℕ). f l .words ++ drop 8 words) words (short words) refl
+    words-of new e = e ∙ said-by (λ (l : List ℕ). f l .words ++ drop wordCount words) words (short words) refl
 
   -- what is left in the buffer, of the part as it was left
   left-of : (f : List ℕ → List ℕ) → f [] ≡ [] → (part whole : List ℕ) → part ≡ f (take (room - 0) old) → f old ≡ whole →

@@ -1,5 +1,5 @@
 // The library's functions on numbers and slices alone, for programs of other languages: each answers a number, 0 or the
-// refusal's, and writes eight words, as `words.Layout` says. A float goes in and out as its bits.
+// refusal's, and writes twelve words, as `words.Layout` says. A float goes in and out as its bits.
 ghost use mathlib.Core.Path.{_≡_};
 ghost use mathlib.Core.Bool.{not};
 ghost use mathlib.Core.List.{[]};
@@ -26,7 +26,7 @@ ghost use Rattle.float_cast.specs.Integral.{asInteger};
 ghost use Rattle.atom.specs.Atoms.{atomRead, atomScratch};
 ghost use Rattle.dictionary.specs.Steps.{skipped};
 ghost use Rattle.dictionary.specs.Runs.{runAll, tallyAll};
-ghost use Rattle.words.specs.Layout.{numberOf, wordsOf, unlessShort, saidAtom, saidSkipped, saidRan, saidTally, saidVersion, saidWritten};
+ghost use Rattle.words.specs.Layout.{wordCount, numberOf, wordsOf, unlessShort, saidAtom, saidSkipped, saidRan, saidTally, saidVersion, saidWritten};
 ghost use Rattle.words.specs.Layout.{saidRefused, saidWord, saidCast, saidAsInteger, saidAsF32, saidAsF64, saidNarrowed};
 ghost use Rattle.recast.specs.Recasts.{recast, integerOfWords, ofInteger};
 ghost use Rattle.exports.specs.Named.{ofKind, ofSpecial};
@@ -41,12 +41,12 @@ use types::SpecialAnswer;
 use types::Way;
 use types::Wide;
 
-// How much of a buffer is lent to a writer: all of it, or nothing where the eight words have no room, since nothing is
-// done then. With no byte lent nothing is written, and what says the answer refuses for the words.
+// How much of a buffer is lent to a writer: all of it, or nothing where the words have no room, since nothing is done
+// then. With no byte lent nothing is written, and what says the answer refuses for the words.
 fn granted(words: usize, room: usize) -> usize
-    ensures { λ r. ⌜ r ≡ pick (ltb words 8) 0 room ⌝ }
+    ensures { λ r. ⌜ r ≡ pick (ltb words wordCount) 0 room ⌝ }
 {
-    if words < 8 {
+    if words < words::WORD_COUNT {
         return 0;
     }
     room

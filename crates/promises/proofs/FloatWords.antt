@@ -18,6 +18,7 @@ use Rattle.types.specs.declared.Way.{Way}
 use Rattle.types.specs.declared.Kind.{Kind}
 use Rattle.types.specs.declared.Kind.the-variants as K
 use Rattle.types.specs.declared.Place.{Place}
+use Rattle.types.specs.declared.Places.{Places}
 use Rattle.types.specs.declared.Budget.{Budget}
 use Rattle.types.specs.declared.Float.{Float}
 use Rattle.types.specs.declared.Float.the-variants as F
@@ -54,7 +55,7 @@ use Rattle.float.proofs.Counts.{Allowed, two, four, eight, allowed-is}
 use Rattle.float.proofs.Stored.{float-means}
 use Rattle.atom.specs.Charges.{budgetAfter}
 use Rattle.atom.specs.Atoms.{atomOf, specialNucleus, charged, judged, integerAtom, floatAtom, bytesAtom, headerTaken}
-use Rattle.atom.specs.Atoms.{bodyTaken, atomFrom, atomRead}
+use Rattle.atom.specs.Atoms.{bodyTaken, atomFrom, firstPlace, atomRead}
 use Rattle.words.specs.declared.NucleusWords.{NucleusWords}
 use Rattle.words.specs.Layout.{atomSaid, saidAtom, floatWords, valueBits}
 
@@ -76,15 +77,15 @@ abbrev AllKnown : AtomAnswer → Type 0
 AllKnown (A.Read p b a) = Known (a .arg) (a .nucleus)
 AllKnown (A.Refused p b r) = Unit {0}
 
-special-known : (arg : ℕ) (next : Place) (rest : Budget) (special : Special) →
-    AllKnown (headerTaken K.Special arg next (specialNucleus special) rest)
-special-known arg next rest S.None = tt
-special-known arg next rest S.Unit = tt
-special-known arg next rest S.False = tt
-special-known arg next rest S.True = tt
-special-known arg next rest S.Named = tt
-special-known arg next rest S.DynamicMap = tt
-special-known arg next rest S.DynamicEnd = tt
+special-known : (arg : ℕ) (first next : Place) (rest : Budget) (special : Special) →
+    AllKnown (headerTaken K.Special arg first next (specialNucleus special) rest)
+special-known arg first next rest S.None = tt
+special-known arg first next rest S.Unit = tt
+special-known arg first next rest S.False = tt
+special-known arg first next rest S.True = tt
+special-known arg first next rest S.Named = tt
+special-known arg first next rest S.DynamicMap = tt
+special-known arg first next rest S.DynamicEnd = tt
 
 charged-known : (next : Place) (budget : Budget) (b : BudgetAnswer) (body : Budget → AtomAnswer) →
     ((rest : Budget) → AllKnown (body rest)) → AllKnown (charged next budget b body)
@@ -96,63 +97,69 @@ picked-known : (k : Bool) (a : AtomAnswer) (p : Place) (rest : Budget) (r : Refu
 picked-known true a p rest r h = h refl
 picked-known false a p rest r h = tt
 
-integer-known : (kind : Kind) (arg : ℕ) (rest : Budget) (a : IntegerAnswer) → AllKnown (integerAtom kind arg rest a)
-integer-known kind arg rest (IA.Read p x) = tt
-integer-known kind arg rest (IA.Refused p r) = tt
+module _ (arg : ℕ) (first next : Place) (rest : Budget) where
+  integer-known : (kind : Kind) (a : IntegerAnswer) → AllKnown (integerAtom kind arg first next rest a)
+  integer-known kind (IA.Read p x) = tt
+  integer-known kind (IA.Refused p r) = tt
 
-bytes-known : (arg : ℕ) (rest : Budget) (a : BytesAnswer) → AllKnown (bytesAtom arg rest a)
-bytes-known arg rest (B.Read p m) = tt
-bytes-known arg rest (B.Refused p r) = tt
+  bytes-known : (a : BytesAnswer) → AllKnown (bytesAtom arg first next rest a)
+  bytes-known (B.Read p m) = tt
+  bytes-known (B.Refused p r) = tt
 
 module _ (s : List ℕ) (fits : (i : ℕ) → getD s i 0 < 256) where
-  module _ (arg at : ℕ) (rest : Budget) where
+  module _ (arg : ℕ) (first next : Place) (rest : Budget) where
     read-known : (p : Place) → Allowed (countOf arg) →
-        AllKnown (floatAtom arg rest
-        (FA.Read p (floatOf (countOf arg) (numberAt (countOf arg) s at)) (numberAt (countOf arg) s at)))
-    read-known p a = (a, number-lt (countOf arg) s at fits, refl)
+        AllKnown (floatAtom arg first next rest
+        (FA.Read p (floatOf (countOf arg) (numberAt (countOf arg) s (next .0))) (numberAt (countOf arg) s (next .0))))
+    read-known p a = (a, number-lt (countOf arg) s (next .0) fits, refl)
 
     body-known : (p q end : Place) (t u : Bool) → Allowed (countOf arg) →
-        AllKnown (floatAtom arg rest
-        (pick t (FA.Read p (floatOf (countOf arg) (numberAt (countOf arg) s at)) (numberAt (countOf arg) s at))
+        AllKnown (floatAtom arg first next rest
+        (pick t
+        (FA.Read p (floatOf (countOf arg) (numberAt (countOf arg) s (next .0))) (numberAt (countOf arg) s (next .0)))
         (pick u (FA.Refused end R.Eof)
-        (FA.Read q (floatOf (countOf arg) (numberAt (countOf arg) s at)) (numberAt (countOf arg) s at)))))
+        (FA.Read q (floatOf (countOf arg) (numberAt (countOf arg) s (next .0))) (numberAt (countOf arg) s (next .0))))))
     body-known p q end true u a = read-known p a
     body-known p q end false true a = tt
     body-known p q end false false a = read-known q a
 
     float-known : (way : Way) → allowedFloat (countOf arg) ≡ true →
-        AllKnown (floatAtom arg rest (floatBody way s at (countOf arg)))
+        AllKnown (floatAtom arg first next rest (floatBody way s (next .0) (countOf arg)))
     unfolding floatBody
     float-known way e =
-        body-known (record { 0 = at + countOf arg }) (record { 0 = length s }) (record { 0 = length s })
-        (leb (at + countOf arg) (length s)) (exact way) (allowed-is (countOf arg) e)
+        body-known (record { 0 = next .0 + countOf arg }) (record { 0 = length s }) (record { 0 = length s })
+        (leb (next .0 + countOf arg) (length s)) (exact way) (allowed-is (countOf arg) e)
 
-  module _ (way : Way) (budget : Budget) (scratch : List ℕ) where
+  module _ (way : Way) (first : Place) (budget : Budget) (scratch : List ℕ) where
     taken-known : (kind : Kind) (arg : ℕ) (next : Place) (rest : Budget) → known kind arg ≡ true →
-        AllKnown (bodyTaken way s kind arg next scratch rest)
-    taken-known K.Special arg next rest e = special-known arg next rest (specialKnown (specialFrom arg))
-    taken-known K.Int arg next rest e = integer-known K.Int arg rest (integerBody way s (next .0) K.Int (countOf arg))
+        AllKnown (bodyTaken way s kind arg first next scratch rest)
+    taken-known K.Special arg next rest e = special-known arg first next rest (specialKnown (specialFrom arg))
+    taken-known K.Int arg next rest e =
+        integer-known arg first next rest K.Int (integerBody way s (next .0) K.Int (countOf arg))
     taken-known K.UInt arg next rest e =
-        integer-known K.UInt arg rest (integerBody way s (next .0) K.UInt (countOf arg))
-    taken-known K.Float arg next rest e = float-known arg (next .0) rest way e
+        integer-known arg first next rest K.UInt (integerBody way s (next .0) K.UInt (countOf arg))
+    taken-known K.Float arg next rest e = float-known arg first next rest way e
     taken-known K.Sequence arg next rest e = tt
     taken-known K.Map arg next rest e = tt
     taken-known K.Symbol arg next rest e = tt
-    taken-known K.Bytes arg next rest e = bytes-known arg rest (stringAnswer way s (next .0) arg scratch)
+    taken-known K.Bytes arg next rest e =
+        bytes-known arg first next rest (stringAnswer way s (next .0) arg scratch)
 
-    after-known : (h : HeaderAnswer) → AllKnown (atomFrom way s budget scratch h)
+    after-known : (h : HeaderAnswer) → AllKnown (atomFrom way s first budget scratch h)
     unfolding judged
     after-known (H.Refused p r) = tt
     after-known (H.Read next kind arg) =
         charged-known next budget (budgetAfter budget (chargeOf kind arg))
-        (λ rest. pick (known kind arg) (bodyTaken way s kind arg next scratch rest)
+        (λ rest. pick (known kind arg) (bodyTaken way s kind arg first next scratch rest)
         (A.Refused next rest (unknown kind arg)))
-        (λ rest. picked-known (known kind arg) (bodyTaken way s kind arg next scratch rest) next rest
+        (λ rest. picked-known (known kind arg) (bodyTaken way s kind arg first next scratch rest) next rest
         (unknown kind arg) (taken-known kind arg next rest))
 
-    atom-known : (place : ℕ) → AllKnown (atomRead way s place budget scratch)
-    unfolding atomRead
-    atom-known place = after-known (headerRead way s place)
+  atom-known : (way : Way) (place : ℕ) (budget : Budget) (scratch : List ℕ) →
+      AllKnown (atomRead way s place budget scratch)
+  unfolding atomRead
+  atom-known way place budget scratch =
+      after-known way (firstPlace s place) budget scratch (headerRead way s place)
 
 -- ---- the words
 
@@ -208,11 +215,13 @@ module _ (arg stored : ℕ) (word : arg < 2 ^ 64) (lt : stored < 256 ^ countOf a
 
 -- EVERY FLOAT THAT AN EXPORT READS: the words that are said of the atom have its value, whatever the way
 pub float-words : (way : Way) (s : List ℕ) (place : ℕ) (budget : Budget) (scratch : List ℕ) →
-    ((i : ℕ) → getD s i 0 < 256) → (p : Place) (b : Budget) (kind : Kind) (arg : ℕ) (x : Float) (stored : ℕ) →
-    arg < 2 ^ 64 → atomRead way s place budget scratch ≡ A.Read p b (atomOf kind arg (N.Float x stored)) →
+    ((i : ℕ) → getD s i 0 < 256) →
+    (p : Place) (b : Budget) (kind : Kind) (arg : ℕ) (places : Places) (x : Float) (stored : ℕ) →
+    arg < 2 ^ 64 → atomRead way s place budget scratch ≡ A.Read p b (atomOf kind arg places (N.Float x stored)) →
     (saidAtom (atomRead way s place budget scratch)
-    ≡ atomSaid (p .0) (b .0) (kindCode kind) arg (floatWords arg x stored)) × Means arg x (floatWords arg x stored)
+    ≡ atomSaid (p .0) (b .0) (kindCode kind) arg (floatWords arg x stored) places)
+    × Means arg x (floatWords arg x stored)
 unfolding saidAtom
-float-words way s place budget scratch fits p b kind arg x stored word e =
-    let held : Known arg (N.Float x stored) = subst AllKnown e (atom-known s fits way budget scratch place) in
+float-words way s place budget scratch fits p b kind arg places x stored word e =
+    let held : Known arg (N.Float x stored) = subst AllKnown e (atom-known s fits way place budget scratch) in
     (ap saidAtom e, means-by arg stored word (held .1) (held .0) x (held .2))

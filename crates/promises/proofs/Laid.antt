@@ -1,9 +1,12 @@
 -- The layout of words has the number that each answer is told by; and the layout at examples, by computing:
 -- rust/tests/layout.rs finds the same in the array that the library wrote.
 use mathlib.Core.Path.{_≡_, refl}
-use Prim.Native.Nat.{_-_, _^_}
+use Prim.Native.Nat.{ℕ, _-_, _^_}
 use mathlib.Core.Bool.{true}
+use mathlib.Core.List.{List, [], _∷_}
 use lib.IntN.{negsuc}
+use Rattle.types.specs.Counters.{placesOf}
+use Rattle.types.specs.declared.Places.{Places}
 use Rattle.types.specs.declared.Kind.the-variants as K
 use Rattle.types.specs.declared.Integer.the-variants as I
 use Rattle.types.specs.declared.Nucleus.the-variants as N
@@ -22,7 +25,7 @@ use Rattle.types.specs.declared.Written.{Written}
 use Rattle.types.specs.declared.Written.the-variants as W
 use Rattle.types.specs.declared.AsInteger.{AsInteger}
 use Rattle.types.specs.declared.AsInteger.the-variants as In
-use Rattle.words.specs.Layout.{says, saidAtom, saidSkipped, saidRan, saidTally, saidVersion, saidWritten, saidAsInteger}
+use Rattle.words.specs.Layout.{Said, saidAtom, saidSkipped, saidRan, saidTally, saidVersion, saidWritten, saidAsInteger}
 use Rattle.promises.specs.Told.{toldAtom, toldSkipped, toldRan, toldTally, toldVersion, toldWritten}
 use Rattle.promises.specs.Told.{toldAsInteger}
 
@@ -34,19 +37,19 @@ atom-number (A.Refused p b r) = refl
 
 pub skipped-number : (a : Skipped) → saidSkipped a .number ≡ toldSkipped a .number
 unfolding saidSkipped
-skipped-number (SK.Past p b body string) = refl
+skipped-number (SK.Past p b places string) = refl
 skipped-number (SK.Refused p b r) = refl
 
 pub ran-number : (a : Ran) → saidRan a .number ≡ toldRan a .number
 unfolding saidRan
-ran-number (RN.Done p b atoms) = refl
-ran-number (RN.Stopped p b atoms r start) = refl
+ran-number (RN.Done p b atoms last) = refl
+ran-number (RN.Stopped p b atoms last r start) = refl
 
 pub tally-number : (a : TallyAnswer) → saidTally a .number ≡ toldTally a .number
 unfolding saidTally
-tally-number (TA.Done t) = refl
-tally-number (TA.Stopped start r) = refl
-tally-number (TA.Refused r) = refl
+tally-number (TA.Done last t) = refl
+tally-number (TA.Stopped last r start) = refl
+tally-number (TA.Refused last r) = refl
 
 pub version-number : (a : VersionAnswer) → saidVersion a .number ≡ toldVersion a .number
 unfolding saidVersion
@@ -63,38 +66,54 @@ unfolding saidAsInteger
 integer-number (In.Value x) = refl
 integer-number (In.Refused r) = refl
 
--- `22 00 00 80` with budget 4: I32 -8388608
+-- ---- examples
+
+-- an answer by its number and its words
+abbrev laid : ℕ → List ℕ → Said
+laid n words = record { number = n; words = words }
+
+-- three places
+abbrev at : ℕ → ℕ → ℕ → Places
+at first body after = placesOf (record { 0 = first }) (record { 0 = body }) (record { 0 = after })
+
+-- `22 00 00 80` with budget 4: I32 -8388608, at 0, 1 and 4
 pub integer-said :
     saidAtom (A.Read (record { 0 = 4 }) (record { 0 = 0 })
-    (record { kind = K.Int; arg = 2; nucleus = N.Integer (I.I32 (negsuc 8388607)) }))
-    ≡ says 0 4 0 1 2 2 2 (2 ^ 64 - 8388608) (2 ^ 64 - 1)
+    (record { kind = K.Int; arg = 2; places = at 0 1 4; nucleus = N.Integer (I.I32 (negsuc 8388607)) }))
+    ≡ laid 0 (4 ∷ 0 ∷ 1 ∷ 2 ∷ 2 ∷ 2 ∷ (2 ^ 64 - 8388608) ∷ (2 ^ 64 - 1) ∷ 0 ∷ 1 ∷ 4 ∷ 0 ∷ [])
 unfolding saidAtom
 integer-said = refl
 
--- `E2 61 62` with budget 5: a string lent from place 1
+-- `E2 61 62` with budget 5: a string lent from place 1, at 0, 1 and 3
 pub string-said :
     saidAtom (A.Read (record { 0 = 3 }) (record { 0 = 3 })
-    (record { kind = K.Bytes; arg = 2; nucleus = N.Bytes (record { start = 1; len = 2; lent = true }) }))
-    ≡ says 0 3 3 7 2 4 1 2 1
+    (record {
+      kind = K.Bytes;
+      arg = 2;
+      places = at 0 1 3;
+      nucleus = N.Bytes (record { start = 1; len = 2; lent = true });
+    }))
+    ≡ laid 0 (3 ∷ 3 ∷ 7 ∷ 2 ∷ 4 ∷ 1 ∷ 2 ∷ 1 ∷ 0 ∷ 1 ∷ 3 ∷ 0 ∷ [])
 unfolding saidAtom
 string-said = refl
 
--- `24` with budget 9: refusal 6(Int, 5)
+-- `24` with budget 9: refusal 6(Int, 5), and no places
 pub refusal-said :
-    saidAtom (A.Refused (record { 0 = 1 }) (record { 0 = 4 }) (R.UnsupportedByteCount K.Int 5)) ≡ says 6 1 4 1 5 0 0 0 0
+    saidAtom (A.Refused (record { 0 = 1 }) (record { 0 = 4 }) (R.UnsupportedByteCount K.Int 5))
+    ≡ laid 6 (1 ∷ 4 ∷ 1 ∷ 5 ∷ 0 ∷ 0 ∷ 0 ∷ 0 ∷ 0 ∷ 0 ∷ 0 ∷ 0 ∷ [])
 unfolding saidAtom
 refusal-said = refl
 
--- the example file with budget 4: refusal 5 at its second atom
+-- the example file with budget 4: refusal 5 at its second atom, and the places of its first
 pub run-said :
-    saidRan (RN.Stopped (record { 0 = 5 }) (record { 0 = 1 }) 1 R.TooManyBytesRead (record { 0 = 4 }))
-    ≡ says 5 5 1 1 4 0 0 0 0
+    saidRan (RN.Stopped (record { 0 = 5 }) (record { 0 = 1 }) 1 (at 0 1 4) R.TooManyBytesRead (record { 0 = 4 }))
+    ≡ laid 5 (5 ∷ 1 ∷ 1 ∷ 4 ∷ 0 ∷ 0 ∷ 0 ∷ 0 ∷ 0 ∷ 1 ∷ 4 ∷ 0 ∷ [])
 unfolding saidRan
 run-said = refl
 
--- its tally
+-- its tally, with the places of its last atom
 pub tally-said :
-    saidTally (TA.Done (record { atoms = 5; body = record { 0 = 10 }; charge = 11; letters = 2 }))
-    ≡ says 0 5 10 11 2 0 0 0 0
+    saidTally (TA.Done (at 14 15 15) (record { atoms = 5; body = record { 0 = 10 }; charge = 11; letters = 2 }))
+    ≡ laid 0 (5 ∷ 10 ∷ 11 ∷ 2 ∷ 0 ∷ 0 ∷ 0 ∷ 0 ∷ 14 ∷ 15 ∷ 15 ∷ 0 ∷ [])
 unfolding saidTally
 tally-said = refl

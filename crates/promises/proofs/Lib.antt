@@ -20,12 +20,15 @@ pub mod Recast
 pub mod Exports
 pub mod Laid
 pub mod FloatWords
+pub mod PlaceWords
 pub mod Exactly
 pub mod Filled
 pub mod Held
 pub mod Demand1
 pub mod Entries
 pub mod Runs
+pub mod Stands
+pub mod Alone
 pub mod IntegerCasts
 pub mod Compared
 pub mod Integrals

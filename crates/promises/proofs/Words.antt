@@ -1,6 +1,8 @@
 -- One result for each contract of `words`, and one content of each lent buffer.
 use Rattle.words.proofs.say as say
 use Rattle.words.proofs.say.Reads as say-reads
+use Rattle.words.proofs.say_all as say-all
+use Rattle.words.proofs.say_all.Reads as say-all-reads
 use Rattle.words.proofs.say_as_f32 as say-as-f32
 use Rattle.words.proofs.say_as_f32.Reads as say-as-f32-reads
 use Rattle.words.proofs.say_as_f64 as say-as-f64
@@ -32,6 +34,9 @@ use Rattle.words.proofs.say_written.Reads as say-written-reads
 use Rattle.promises.proofs.One.{One}
 use denote.Ref.{now}
 use mathlib.Core.Path.{_∙_, sym}
+
+pub say-all-one : One say-all.ended say-all-reads.Post (λ κs s. now (s .0))
+say-all-one κs a r₁ r₂ s₁ s₂ p q = (p .0 ∙ sym (q .0), p .1 ∙ sym (q .1))
 
 pub say-one : One say.ended say-reads.Post (λ κs s. now (s .0))
 say-one κs a r₁ r₂ s₁ s₂ p q = (p .0 ∙ sym (q .0), p .1 ∙ sym (q .1))

@@ -12,6 +12,7 @@ use mir.Syntax.{w64}
 use mir.Val.{Fits}
 use Rattle.types.specs.declared.Way.the-variants as W
 use Rattle.types.specs.declared.Place.{Place}
+use Rattle.types.specs.declared.Places.{Places}
 use Rattle.types.specs.declared.Refusal.{Refusal}
 use Rattle.types.specs.declared.Refusal.the-variants as R
 use Rattle.types.specs.declared.Tallied.{Tallied}
@@ -33,12 +34,12 @@ module _ (file : List ℕ) (version : ℕ) (answer : TallyAnswer)
   found = e ∙ ap tallyAll (take-all (length file - 4) (drop 4 file) (simp length-drop (omega arith)))
 
   -- to the end
-  pub all-tallied : (t : Tallied) → answer ≡ TA.Done t →
+  pub all-tallied : (last : Places) (t : Tallied) → answer ≡ TA.Done last t →
       RP.Counted version (length file - 4) t ≡ counted file version (tallyAll (afterSignature file))
-  all-tallied t d = cc (found, length-drop 4 file)
+  all-tallied last t d = cc (found, length-drop 4 file)
 
   -- up to an atom that was refused, which starts within the file
-  module _ (start : Place) (why : Refusal) (d : answer ≡ TA.Stopped start why) where
+  module _ (last : Places) (start : Place) (why : Refusal) (d : answer ≡ TA.Stopped last why start) where
     pub start-fits : 4 ≤ length file → length file * 1 < 2 ^ 63 → Fits w64 (4 + start .0)
     start-fits h room =
         let i : start .0 ≤ length (drop 4 file) =
@@ -52,9 +53,9 @@ module _ (file : List ℕ) (version : ℕ) (answer : TallyAnswer)
     atom-refused = cc found
 
   -- not at all
-  pub all-refused : (why : Refusal) → answer ≡ TA.Refused why →
+  pub all-refused : (last : Places) (why : Refusal) → answer ≡ TA.Refused last why →
       RP.Refused why (record { 0 = 0 }) ≡ counted file version (tallyAll (afterSignature file))
-  all-refused why d = cc found
+  all-refused last why d = cc found
 
 pub ruleset count-ends = (all-tallied, start-fits, atom-refused, all-refused, needs)
 

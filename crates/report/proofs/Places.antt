@@ -9,8 +9,10 @@ use lib.Dec.{ltb, leb}
 use lib.ListN.{length}
 use borrow.Author.Tests.{ltb-true, leb-true, leb-false, le-ltb, lt-leb}
 use Rattle.types.specs.Choice.{pick}
+use Rattle.types.specs.Counters.{noPlaces}
 use Rattle.types.specs.declared.Way.the-variants as W
 use Rattle.types.specs.declared.Place.{Place}
+use Rattle.types.specs.declared.Places.{Places}
 use Rattle.types.specs.declared.Budget.{Budget}
 use Rattle.types.specs.declared.Refusal.the-variants as R
 use Rattle.types.specs.declared.Skipped.{Skipped}
@@ -26,35 +28,39 @@ use Rattle.dictionary.specs.Runs.{tallyAll, tallyFrom, afterStep, added, nothin
 
 -- where a refused atom starts
 abbrev pub stopAt : TallyAnswer → ℕ
-stopAt (TA.Done t) = 0
-stopAt (TA.Stopped start r) = start .0
-stopAt (TA.Refused r) = 0
+stopAt (TA.Done last t) = 0
+stopAt (TA.Stopped last r start) = start .0
+stopAt (TA.Refused last r) = 0
 
 stop-step :
-    (s : List ℕ) (at : ℕ) (on : Place → Budget → Place → Bool → TallyAnswer) (k : Skipped) (t : Bool) (d : Tallied) →
-    ltb at (length s) ≡ t → ((p : Place) (b : Budget) (q : Place) (f : Bool) → stopAt (on p b q f) ≤ length s) →
-    stopAt (pick t (afterStep k on (λ r. TA.Stopped (record { 0 = at }) r)) (TA.Done d)) ≤ length s
-stop-step s at on (SK.Past p b q f) true d e h = h p b q f
-stop-step s at on (SK.Refused p b r) true d e h = let l : at < length s = ltb-true at (length s) e in omega arith
-stop-step s at on (SK.Past p b q f) false d e h = omega arith
-stop-step s at on (SK.Refused p b r) false d e h = omega arith
+    (s : List ℕ) (at : ℕ) (on : Place → Budget → Places → Bool → TallyAnswer) (k : Skipped) (t : Bool) (last : Places)
+    (d : Tallied) →
+    ltb at (length s) ≡ t → ((p : Place) (b : Budget) (q : Places) (f : Bool) → stopAt (on p b q f) ≤ length s) →
+    stopAt (pick t (afterStep k on (λ r. TA.Stopped last r (record { 0 = at }))) (TA.Done last d)) ≤ length s
+stop-step s at on (SK.Past p b q f) true last d e h = h p b q f
+stop-step s at on (SK.Refused p b r) true last d e h = let l : at < length s = ltb-true at (length s) e in omega arith
+stop-step s at on (SK.Past p b q f) false last d e h = omega arith
+stop-step s at on (SK.Refused p b r) false last d e h = omega arith
 
-stop-from : (fuel : ℕ) (s : List ℕ) (at : ℕ) (t : Tallied) → stopAt (tallyFrom fuel s at t) ≤ length s
+stop-from : (fuel : ℕ) (s : List ℕ) (at : ℕ) (t : Tallied) (last : Places) →
+    stopAt (tallyFrom fuel s at t last) ≤ length s
 unfolding tallyFrom
-stop-from zero s at t = omega arith
-stop-from (suc fuel) s at t =
+stop-from zero s at t last = omega arith
+stop-from (suc fuel) s at t last =
     stop-step s at
-    (λ place rest body string. tallyFrom fuel s (place .0) (added s t (place .0) (rest .0) (body .0) string))
+    (λ place rest places string.
+    tallyFrom fuel s (place .0) (added s t (place .0) (rest .0) (places .body .0) string) places)
     (skipped s at (record { 0 = unlimited }))
     (ltb at (length s))
+    last
     t
     refl
-    (λ p b q f. stop-from fuel s (p .0) (added s t (p .0) (b .0) (q .0) f))
+    (λ p b q f. stop-from fuel s (p .0) (added s t (p .0) (b .0) (q .body .0) f) q)
 
 stop-all : (s : List ℕ) (t : Bool) →
-    stopAt (pick t (TA.Refused R.TooLong) (tallyFrom (suc (length s)) s 0 nothing)) ≤ length s
+    stopAt (pick t (TA.Refused noPlaces R.TooLong) (tallyFrom (suc (length s)) s 0 nothing noPlaces)) ≤ length s
 stop-all s true = omega arith
-stop-all s false = stop-from (suc (length s)) s 0 nothing
+stop-all s false = stop-from (suc (length s)) s 0 nothing noPlaces
 
 pub stop-within : (s : List ℕ) → stopAt (tallyAll s) ≤ length s
 stop-within s = stop-all s (ltb mostBytes (length s))

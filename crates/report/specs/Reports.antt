@@ -30,9 +30,9 @@ afterSignature file = drop signatureLength file
 -- "version is the signature's low byte; bytes counts all after the signature; the others are the tally's"; "`at=` where
 -- the refused atom starts in the file, signature counted (0 for signature and length)"
 abbrev pub counted : List ℕ → ℕ → TallyAnswer → Report
-counted file version (TA.Done t) = RP.Counted version (length (afterSignature file)) t
-counted file version (TA.Stopped start r) = RP.Refused r (record { 0 = signatureLength + start .0 })
-counted file version (TA.Refused r) = RP.Refused r (record { 0 = 0 })
+counted file version (TA.Done last t) = RP.Counted version (length (afterSignature file)) t
+counted file version (TA.Stopped last r start) = RP.Refused r (record { 0 = signatureLength + start .0 })
+counted file version (TA.Refused last r) = RP.Refused r (record { 0 = 0 })
 
 -- "0 for signature and length"
 abbrev pub reportAfter : List ℕ → VersionAnswer → Report

@@ -25,13 +25,13 @@ fn count(file: &[u8], version: u8) -> Report
     ensures { λ r. ⌜ r ≡ counted (now (file .entry)) version (tallyAll (afterSignature (now (file .entry)))) ⌝ }
 {
     match dictionary::tally(&file[4..]) {
-        TallyAnswer::Done(tallied) => {
+        TallyAnswer::Done(_, tallied) => {
             return Report::Counted(version, file.len() - 4, tallied);
         }
-        TallyAnswer::Stopped(start, refusal) => {
+        TallyAnswer::Stopped(_, refusal, start) => {
             return Report::Refused(refusal, Place(4 + start.0));
         }
-        TallyAnswer::Refused(refusal) => return Report::Refused(refusal, Place(0)),
+        TallyAnswer::Refused(_, refusal) => return Report::Refused(refusal, Place(0)),
     }
 }
 

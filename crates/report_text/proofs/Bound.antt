@@ -120,9 +120,9 @@ letters-within atom w = letters-cases (isString (headerKind atom)) atom (headerL
 
 -- what the tally answers of so many bytes: small numbers, or a place among them
 abbrev Within : ℕ → TallyAnswer → Type 0
-Within n (TA.Done t) = Small t
-Within n (TA.Stopped start r) = start .0 ≤ n
-Within n (TA.Refused r) = 0 ≤ n
+Within n (TA.Done last t) = Small t
+Within n (TA.Stopped last r start) = start .0 ≤ n
+Within n (TA.Refused last r) = 0 ≤ n
 
 made-small : (s : List ℕ) (m : Made s) → length s ≤ 65_532 → Small (priced (m .atoms))
 made-small s m h =
@@ -171,11 +171,11 @@ version-small s =
 -- the text of what is found
 answered-most : (file : List ℕ) (version : ℕ) (a : TallyAnswer) → length file ≤ 65_536 → version < 256 →
     Within (length (afterSignature file)) a → length (reportText (counted file version a)) ≤ 79
-answered-most file version (TA.Done t) h v w =
+answered-most file version (TA.Done last t) h v w =
     counted-most version (length (afterSignature file)) t v (omega (arith, length-drop 4 file)) w
-answered-most file version (TA.Stopped start r) h v w =
+answered-most file version (TA.Stopped last r start) h v w =
     refused-most r (4 + start .0) (omega (arith, w, length-drop 4 file))
-answered-most file version (TA.Refused r) h v w = refused-most r 0 (omega arith)
+answered-most file version (TA.Refused last r) h v w = refused-most r 0 (omega arith)
 
 signed-most : (file : List ℕ) (a : VersionAnswer) → length file ≤ 65_536 → versionOf a < 256 →
     length (reportText (reportAfter file a)) ≤ 79

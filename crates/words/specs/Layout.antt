@@ -1,6 +1,7 @@
 -- Answers as numbers, for programs of other languages: a number, which is 0 of an answer that is no refusal and else
--- the refusal's number of document 01, and eight words beside it, zeros where nothing is said. "If an answer is an
--- enum, a definition tells you this paper's number and values for each of its cases."
+-- the refusal's number of document 01, and twelve words beside it, zeros where nothing is said. "If an answer is an
+-- enum, a definition tells you this paper's number and values for each of its cases." Words 8, 9 and 10 are the three
+-- places of an atom (document 02, K1), and word 11 is kept for what is to come.
 use Prim.Native.Nat.{ℕ, _%_, _^_}
 use mathlib.Core.Bool.{Bool}
 use mathlib.Core.List.{List, [], _∷_, _++_}
@@ -8,8 +9,10 @@ use lib.Dec.{ltb, eqb}
 use lib.ListN.{length, drop, getD}
 use lib.Ieee.{binary32, binary64, toBits}
 use Rattle.types.specs.Choice.{pick}
+use Rattle.types.specs.Counters.{noPlaces}
 use Rattle.types.specs.Kinds.{kindCode}
 use Rattle.types.specs.Refusals.{refusalNumber, refusalData, noRoom}
+use Rattle.types.specs.declared.Places.{Places}
 use Rattle.types.specs.declared.Refusal.{Refusal}
 use Rattle.types.specs.declared.Integer.{Integer}
 use Rattle.types.specs.declared.Integer.the-variants as I
@@ -43,30 +46,44 @@ use Rattle.types.specs.declared.Refusal.the-variants as R
 use Rattle.binary.specs.Formats.{half, single}
 use Rattle.binary.specs.Conversions.{widened}
 
--- an answer's number and its eight words
+-- how many words an answer has
+abbrev pub wordCount : ℕ
+wordCount = 12
+
+-- an answer's number and its words
 pub record Said : Type 0 where
   pub number : ℕ
   pub words : List ℕ
 
--- an answer of that number
+-- an answer of that number, by its words
+abbrev pub laid : ℕ → ℕ → ℕ → ℕ → ℕ → ℕ → ℕ → ℕ → ℕ → ℕ → ℕ → ℕ → Said
+laid n a b c d e f g h first body after =
+    record { number = n; words = a ∷ b ∷ c ∷ d ∷ e ∷ f ∷ g ∷ h ∷ first ∷ body ∷ after ∷ 0 ∷ [] }
+
+-- one that has places
+abbrev pub saysAt : ℕ → ℕ → ℕ → ℕ → ℕ → ℕ → ℕ → ℕ → ℕ → Places → Said
+saysAt n a b c d e f g h places =
+    laid n a b c d e f g h (places .first .0) (places .body .0) (places .after .0)
+
+-- one that has none
 abbrev pub says : ℕ → ℕ → ℕ → ℕ → ℕ → ℕ → ℕ → ℕ → ℕ → Said
-says n a b c d e f g h = record { number = n; words = a ∷ b ∷ c ∷ d ∷ e ∷ f ∷ g ∷ h ∷ [] }
+says n a b c d e f g h = saysAt n a b c d e f g h noPlaces
 
 -- a refusal's data, from 0 on; 0 where it has none
 abbrev pub datum : ℕ → Refusal → ℕ
 datum i r = getD (refusalData r) i 0
 
--- ---- what comes back: "9 NoRoom: output shorter than the whole write", of the eight words
+-- ---- what comes back: "9 NoRoom: output shorter than the whole write", of the words
 
 abbrev pub short : List ℕ → Bool
-short old = ltb (length old) 8
+short old = ltb (length old) wordCount
 
 abbrev pub numberOf : Said → List ℕ → ℕ
-numberOf said old = pick (short old) (refusalNumber (noRoom 8)) (said .number)
+numberOf said old = pick (short old) (refusalNumber (noRoom wordCount)) (said .number)
 
--- the array of words: the first eight, and the rest as it was
+-- the array of words: those of the answer, and the rest as it was
 abbrev pub wordsOf : Said → List ℕ → List ℕ
-wordsOf said old = pick (short old) old (said .words ++ drop 8 old)
+wordsOf said old = pick (short old) old (said .words ++ drop wordCount old)
 
 -- another lent buffer, which is left as it was where the words have no room
 abbrev pub unlessShort : List ℕ → List ℕ → List ℕ → List ℕ
@@ -117,31 +134,35 @@ nucleusWords arg N.DynamicEnd = record { case = 8; first = 0; second = 0; third 
 
 -- ---- the answers
 
--- one atom: place, budget; kind, argument and what it holds, or the refusal's data
-abbrev pub atomSaid : ℕ → ℕ → ℕ → ℕ → NucleusWords → Said
-atomSaid place budget kind arg w = says 0 place budget kind arg (w .case) (w .first) (w .second) (w .third)
+-- one atom: place, budget; kind, argument and what it holds, and its places; or the refusal's data
+abbrev pub atomSaid : ℕ → ℕ → ℕ → ℕ → NucleusWords → Places → Said
+atomSaid place budget kind arg w places =
+    saysAt 0 place budget kind arg (w .case) (w .first) (w .second) (w .third) places
 
 unfoldable pub saidAtom : AtomAnswer → Said
-saidAtom (A.Read p b x) = atomSaid (p .0) (b .0) (kindCode (x .kind)) (x .arg) (nucleusWords (x .arg) (x .nucleus))
+saidAtom (A.Read p b x) =
+    atomSaid (p .0) (b .0) (kindCode (x .kind)) (x .arg) (nucleusWords (x .arg) (x .nucleus)) (x .places)
 saidAtom (A.Refused p b r) = says (refusalNumber r) (p .0) (b .0) (datum 0 r) (datum 1 r) 0 0 0 0
 
--- one atom skipped: place, budget; where its body starts, and 1 if it is a string, or the refusal's data
+-- one atom skipped: place, budget; where its body starts, 1 if it is a string, and its places; or the refusal's data
 unfoldable pub saidSkipped : Skipped → Said
-saidSkipped (SK.Past p b body string) = says 0 (p .0) (b .0) (body .0) (pick string 1 0) 0 0 0 0
+saidSkipped (SK.Past p b places string) =
+    saysAt 0 (p .0) (b .0) (places .body .0) (pick string 1 0) 0 0 0 0 places
 saidSkipped (SK.Refused p b r) = says (refusalNumber r) (p .0) (b .0) (datum 0 r) (datum 1 r) 0 0 0 0
 
--- a run: place, budget, atoms; of a refused atom also where it starts, and the refusal's data
+-- a run: place, budget, atoms, and the places of the last of them; of a refused atom also where it starts, and the
+-- refusal's data
 unfoldable pub saidRan : Ran → Said
-saidRan (RN.Done p b atoms) = says 0 (p .0) (b .0) atoms 0 0 0 0 0
-saidRan (RN.Stopped p b atoms r start) =
-    says (refusalNumber r) (p .0) (b .0) atoms (start .0) (datum 0 r) (datum 1 r) 0 0
+saidRan (RN.Done p b atoms last) = saysAt 0 (p .0) (b .0) atoms 0 0 0 0 0 last
+saidRan (RN.Stopped p b atoms last r start) =
+    saysAt (refusalNumber r) (p .0) (b .0) atoms (start .0) (datum 0 r) (datum 1 r) 0 0 last
 
 -- a tally: atoms, body bytes, charge, letters; or where the refused atom starts, 0 where the input is refused as a
--- whole, and the refusal's data
+-- whole, and the refusal's data; either way the places of the last atom that was read
 unfoldable pub saidTally : TallyAnswer → Said
-saidTally (TA.Done t) = says 0 (t .atoms) (t .body .0) (t .charge) (t .letters) 0 0 0 0
-saidTally (TA.Stopped start r) = says (refusalNumber r) (start .0) (datum 0 r) (datum 1 r) 0 0 0 0 0
-saidTally (TA.Refused r) = says (refusalNumber r) 0 (datum 0 r) (datum 1 r) 0 0 0 0 0
+saidTally (TA.Done last t) = saysAt 0 (t .atoms) (t .body .0) (t .charge) (t .letters) 0 0 0 0 last
+saidTally (TA.Stopped last r start) = saysAt (refusalNumber r) (start .0) (datum 0 r) (datum 1 r) 0 0 0 0 0 last
+saidTally (TA.Refused last r) = saysAt (refusalNumber r) 0 (datum 0 r) (datum 1 r) 0 0 0 0 0 last
 
 -- a signature: place and version, or place
 unfoldable pub saidVersion : VersionAnswer → Said

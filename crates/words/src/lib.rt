@@ -1,8 +1,8 @@
-// Answers as numbers, for programs of other languages: each is a number, 0 or the refusal's, and eight words in a lent
+// Answers as numbers, for programs of other languages: each is a number, 0 or the refusal's, and twelve words in a lent
 // array. The layout is `specs/Layout.antt`.
 ghost use mathlib.Core.Path.{_≡_};
 ghost use Rattle.types.specs.Choice.{pick};
-ghost use Rattle.words.specs.Layout.{says, datum, numberOf, wordsOf, integerWords, valueBits, nucleusWords, floatWords};
+ghost use Rattle.words.specs.Layout.{says, saysAt, laid, datum, numberOf, wordsOf, integerWords, valueBits, nucleusWords, floatWords};
 ghost use Rattle.words.specs.Layout.{saidAtom, saidSkipped, saidRan, saidTally, saidVersion, saidWritten, saidRefused, saidWord, saidInteger, saidAsInteger, saidCast, saidAsF32, saidAsF64, saidNarrowed};
 ghost use Rattle.binary.specs.Formats.{single, double};
 ghost use Rattle.binary.specs.Conversions.{narrowed};
@@ -14,6 +14,7 @@ use types::AtomAnswer;
 use types::Float;
 use types::Integer;
 use types::Nucleus;
+use types::Places;
 use types::Ran;
 use types::Refusal;
 use types::Skipped;
@@ -36,7 +37,47 @@ pub struct NucleusWords {
     pub third: u64,
 }
 
-// An answer's number and its eight words: refusal 9, and nothing is stored, where the array is shorter.
+// How many words an answer has.
+pub const WORD_COUNT: usize = 12;
+
+// An answer's number and its words: refusal 9, and nothing is stored, where the array is shorter.
+pub fn say_all(
+    words: &mut [u64],
+    number: u64,
+    a: u64,
+    b: u64,
+    c: u64,
+    d: u64,
+    e: u64,
+    f: u64,
+    g: u64,
+    h: u64,
+    first: u64,
+    body: u64,
+    after: u64,
+) -> u64
+    ensures { λ r. ⌜ r ≡ numberOf (laid number a b c d e f g h first body after) (now (words .entry)) ⌝ }
+    ensures { λ r. ⌜ now (words .exit) ≡ wordsOf (laid number a b c d e f g h first body after) (now (words .entry)) ⌝ }
+{
+    if words.len() < WORD_COUNT {
+        return 9;
+    }
+    words[0] = a;
+    words[1] = b;
+    words[2] = c;
+    words[3] = d;
+    words[4] = e;
+    words[5] = f;
+    words[6] = g;
+    words[7] = h;
+    words[8] = first;
+    words[9] = body;
+    words[10] = after;
+    words[11] = 0;
+    number
+}
+
+// One that has no places.
 pub fn say(
     words: &mut [u64],
     number: u64,
@@ -52,18 +93,28 @@ pub fn say(
     ensures { λ r. ⌜ r ≡ numberOf (says number a b c d e f g h) (now (words .entry)) ⌝ }
     ensures { λ r. ⌜ now (words .exit) ≡ wordsOf (says number a b c d e f g h) (now (words .entry)) ⌝ }
 {
-    if words.len() < 8 {
-        return 9;
-    }
-    words[0] = a;
-    words[1] = b;
-    words[2] = c;
-    words[3] = d;
-    words[4] = e;
-    words[5] = f;
-    words[6] = g;
-    words[7] = h;
-    number
+    say_all(words, number, a, b, c, d, e, f, g, h, 0, 0, 0)
+}
+
+// One of at most six words beside its places.
+fn say_at(
+    words: &mut [u64],
+    number: u64,
+    a: u64,
+    b: u64,
+    c: u64,
+    d: u64,
+    e: u64,
+    f: u64,
+    places: Places,
+) -> u64
+    ensures { λ r. ⌜ r ≡ numberOf (saysAt number a b c d e f 0 0 places) (now (words .entry)) ⌝ }
+    ensures { λ r. ⌜ now (words .exit) ≡ wordsOf (saysAt number a b c d e f 0 0 places) (now (words .entry)) ⌝ }
+{
+    let first = places.first.0 as u64;
+    let body = places.body.0 as u64;
+    let after = places.after.0 as u64;
+    say_all(words, number, a, b, c, d, e, f, 0, 0, first, body, after)
 }
 
 // The first of a refusal's data.
@@ -208,16 +259,15 @@ pub fn say_atom(words: &mut [u64], answer: AtomAnswer) -> u64
 {
     match answer {
         AtomAnswer::Read(place, budget, atom) => {
-            let at = place.0 as u64;
             let arg = atom.arg;
             let kind = atom.kind;
             let code = kind.code() as u64;
             let nucleus = atom.nucleus;
             let w = nucleus_words(arg, nucleus);
-            return say(
+            return say_all(
                 words,
                 0,
-                at,
+                place.0 as u64,
                 budget.0,
                 code,
                 arg,
@@ -225,6 +275,9 @@ pub fn say_atom(words: &mut [u64], answer: AtomAnswer) -> u64
                 w.first,
                 w.second,
                 w.third,
+                atom.places.first.0 as u64,
+                atom.places.body.0 as u64,
+                atom.places.after.0 as u64,
             );
         }
         AtomAnswer::Refused(place, budget, refusal) => {
@@ -243,20 +296,11 @@ pub fn say_skipped(words: &mut [u64], answer: Skipped) -> u64
     ensures { λ r. ⌜ now (words .exit) ≡ wordsOf (saidSkipped answer) (now (words .entry)) ⌝ }
 {
     match answer {
-        Skipped::Past(place, budget, body, string) => {
+        Skipped::Past(place, budget, places, string) => {
             let is_string = bit(string);
-            return say(
-                words,
-                0,
-                place.0 as u64,
-                budget.0,
-                body.0 as u64,
-                is_string,
-                0,
-                0,
-                0,
-                0,
-            );
+            let body = places.body.0 as u64;
+            let at = place.0 as u64;
+            return say_at(words, 0, at, budget.0, body, is_string, 0, 0, places);
         }
         Skipped::Refused(place, budget, refusal) => {
             let first = first_datum(refusal);
@@ -283,14 +327,15 @@ pub fn say_ran(words: &mut [u64], answer: Ran) -> u64
     ensures { λ r. ⌜ now (words .exit) ≡ wordsOf (saidRan answer) (now (words .entry)) ⌝ }
 {
     match answer {
-        Ran::Done(place, budget, atoms) => {
-            return say(words, 0, place.0 as u64, budget.0, atoms, 0, 0, 0, 0, 0);
+        Ran::Done(place, budget, atoms, last) => {
+            let at = place.0 as u64;
+            return say_at(words, 0, at, budget.0, atoms, 0, 0, 0, last);
         }
-        Ran::Stopped(place, budget, atoms, refusal, start) => {
+        Ran::Stopped(place, budget, atoms, last, refusal, start) => {
             let first = first_datum(refusal);
             let second = second_datum(refusal);
             let number = refusal.number();
-            return say(
+            return say_at(
                 words,
                 number,
                 place.0 as u64,
@@ -299,8 +344,7 @@ pub fn say_ran(words: &mut [u64], answer: Ran) -> u64
                 start.0 as u64,
                 first,
                 second,
-                0,
-                0,
+                last,
             );
         }
     }
@@ -312,29 +356,22 @@ pub fn say_tally(words: &mut [u64], answer: TallyAnswer) -> u64
     ensures { λ r. ⌜ now (words .exit) ≡ wordsOf (saidTally answer) (now (words .entry)) ⌝ }
 {
     match answer {
-        TallyAnswer::Done(t) => {
-            return say(words, 0, t.atoms, t.body.0, t.charge, t.letters, 0, 0, 0, 0);
+        TallyAnswer::Done(last, t) => {
+            let body = t.body.0;
+            return say_at(words, 0, t.atoms, body, t.charge, t.letters, 0, 0, last);
         }
-        TallyAnswer::Stopped(start, refusal) => {
+        TallyAnswer::Stopped(last, refusal, start) => {
+            let at = start.0 as u64;
             let first = first_datum(refusal);
             let second = second_datum(refusal);
-            return say(
-                words,
-                refusal.number(),
-                start.0 as u64,
-                first,
-                second,
-                0,
-                0,
-                0,
-                0,
-                0,
-            );
+            let number = refusal.number();
+            return say_at(words, number, at, first, second, 0, 0, 0, last);
         }
-        TallyAnswer::Refused(refusal) => {
+        TallyAnswer::Refused(last, refusal) => {
             let first = first_datum(refusal);
             let second = second_datum(refusal);
-            return say(words, refusal.number(), 0, first, second, 0, 0, 0, 0, 0);
+            let number = refusal.number();
+            return say_at(words, number, 0, first, second, 0, 0, 0, last);
         }
     }
 }

@@ -1,4 +1,4 @@
--- `exports::granted` meets its contract: the one test for the eight words.
+-- `exports::granted` meets its contract: the one test for room for the words.
 use Rattle.exports.proofs.Ends.{granted-ends}
 use Rattle.exports.proofs.granted.Statement.{statement}
 use Rattle.exports.proofs.granted.Tie as tie

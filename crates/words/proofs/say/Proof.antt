@@ -1,12 +1,10 @@
--- `words::say` meets its contract: the test for room is the definition's, and eight stores are a prefix of eight.
-use Rattle.words.proofs.Ends.{say-ends}
+-- `words::say` meets its contract: an answer with the places of none.
+use borrow.Author.Needs.{needs}
 use Rattle.words.proofs.say.Statement.{statement}
 use Rattle.words.proofs.say.Tie as tie
 
+returns : tie.Need-returns
+returns c = search needs
+
 pub say-spec : {M : Type 1} → statement M
-say-spec =
-    tie.close
-    (tie.spec
-    (λ c. search say-ends) (λ c. search say-ends) (λ c. search say-ends) (λ c. search say-ends) (λ c. search say-ends)
-    (λ c. search say-ends) (λ c. search say-ends) (λ c. search say-ends) (λ c. search say-ends) (λ c. search say-ends)
-    (λ c. search say-ends))
+say-spec = tie.close (tie.spec (λ c κs. search needs) (λ c. search needs) returns)

@@ -7,7 +7,7 @@ use Rattle.words.proofs.say_atom.Tie as tie
 
 returns : tie.Need-returns
 unfolding saidAtom
-returns c = search (number-said saidAtom, words-said saidAtom, parts)
+returns c = (search (number-said saidAtom, parts), search (words-said saidAtom, parts))
 
 returns-2 : tie.Need-returns-2
 unfolding saidAtom
