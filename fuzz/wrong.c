@@ -1,4 +1,4 @@
-/* Exports that keep their answers and break what a lender is promised; each is tried alone by self-check. */
+/* Exports that break what a lender is promised, or say wrong places; each is tried alone by self-check. */
 #include "dimewagon.h"
 
 #ifdef WRONG_write_none
@@ -28,5 +28,29 @@ uint64_t right_read_header(const uint8_t *source, size_t source_len, size_t plac
 uint64_t pot_read_header(const uint8_t *source, size_t source_len, size_t place, uint64_t *words, size_t words_len) {
     (void)*(const volatile uint8_t *)(source + source_len);
     return right_read_header(source, source_len, place, words, words_len);
+}
+#endif
+
+#ifdef WRONG_read_atom_exact
+uint64_t right_read_atom_exact(const uint8_t *source, size_t source_len, size_t place, uint64_t budget, uint64_t *words,
+                               size_t words_len);
+
+/* Says that the body starts where the header does. */
+uint64_t pot_read_atom_exact(const uint8_t *source, size_t source_len, size_t place, uint64_t budget, uint64_t *words,
+                             size_t words_len) {
+    uint64_t number = right_read_atom_exact(source, source_len, place, budget, words, words_len);
+    if (words_len >= POT_WORDS) words[POT_BODY] = words[POT_FIRST];
+    return number;
+}
+#endif
+
+#ifdef WRONG_run
+uint64_t right_run(const uint8_t *source, size_t source_len, uint64_t budget, uint64_t *words, size_t words_len);
+
+/* Forgets the last atom's places where an atom is refused. */
+uint64_t pot_run(const uint8_t *source, size_t source_len, uint64_t budget, uint64_t *words, size_t words_len) {
+    uint64_t number = right_run(source, source_len, budget, words, words_len);
+    if (number != 0 && words_len >= POT_WORDS) words[POT_FIRST] = words[POT_BODY] = words[POT_AFTER] = 0;
+    return number;
 }
 #endif

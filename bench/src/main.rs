@@ -19,13 +19,34 @@ mod wire;
 
 use error::Error;
 
-/// What reading a whole file found.
+/// How many words the exports say.
+#[cfg(feature = "exports")]
+pub const WORDS: usize = 12;
+
+/// Where an atom stands: its first place, where its body starts and the place after it.
+#[derive(Debug, Default, PartialEq, Eq, Clone, Copy)]
+pub struct Places {
+    pub first: u64,
+    pub body: u64,
+    pub after: u64,
+}
+
+impl Places {
+    /// A word of the three, each at its own bits.
+    pub const fn word(self) -> u64 {
+        self.first ^ (self.body << 20) ^ (self.after << 40)
+    }
+}
+
+/// What reading a whole file found. A read has the places of every atom in its sum, a run those of its last atom by
+/// themselves.
 #[derive(Debug, PartialEq, Eq, Clone, Copy)]
 pub struct Found {
     pub sum: u64,
     pub atoms: u64,
     pub place: u64,
     pub budget: u64,
+    pub last: Places,
 }
 
 #[derive(Debug, Default, PartialEq, Eq, Clone, Copy)]
@@ -34,6 +55,7 @@ pub struct Tally {
     pub body: u64,
     pub charge: u64,
     pub letters: u64,
+    pub last: Places,
 }
 
 /// The arguments: files of hyphenation patterns, read as `NAME=PATH`; `--rounds N`; `--only WORD`.

@@ -6,7 +6,9 @@ use crate::error::Error;
 use crate::format::{self, read_atom, Atom, InnerFloat, InnerInteger, Kind, Nucleus, Special};
 use crate::proved::Writer;
 use crate::reader::{IoReader, Reader, SliceReader};
-use crate::{Found, Tally};
+#[cfg(feature = "exports")]
+use crate::WORDS;
+use crate::{Found, Places, Tally};
 
 /// A word into the checksum.
 pub fn fold(sum: u64, word: u64) -> u64 {
@@ -78,58 +80,99 @@ impl<'a> Source<'a> for IoReader<&'a [u8]> {
     }
 }
 
-fn read<'a>(mut reader: impl Source<'a>, budget: u64, scratch: &mut Vec<u8>) -> Result<Found, Error> {
-    let length = reader.left();
-    let mut budget = budget as usize;
-    let (mut sum, mut atoms) = (0, 0);
-    while reader.left() > 0 {
-        let atom = read_atom(&mut reader, &mut budget, scratch)?;
-        sum = fold(sum, atom_word(&atom, scratch));
-        atoms += 1;
+/// The places of an atom that was read. The first and the last are where its reader stood before it and after it. The
+/// original does not say where the header ends: the source's bytes do.
+fn places(source: &[u8], first: usize, after: usize) -> Places {
+    Places { first: first as u64, body: past_header(source, first) as u64, after: after as u64 }
+}
+
+/// The place past the header that starts there, as far as the source goes: its first byte says by 0x10 that another
+/// follows, and each of those but the ninth by 0x80.
+fn past_header(source: &[u8], first: usize) -> usize {
+    match source.get(first) {
+        None => first,
+        Some(byte) if byte & 0x10 == 0 => first + 1,
+        Some(_) => {
+            let later = &source[first + 1..];
+            let more = later.iter().take(8).take_while(|byte| *byte & 0x80 != 0).count();
+            first + 1 + later.len().min(more + 1)
+        }
     }
-    Ok(Found { sum, atoms, place: (length - reader.left()) as u64, budget: budget as u64 })
+}
+
+fn read<'a>(
+    source: &'a [u8],
+    mut reader: impl Source<'a>,
+    budget: u64,
+    scratch: &mut Vec<u8>,
+) -> Result<Found, Error> {
+    let mut budget = budget as usize;
+    let (mut sum, mut atoms, mut place) = (0, 0, 0);
+    while place < source.len() {
+        let atom = read_atom(&mut reader, &mut budget, scratch)?;
+        let after = source.len() - reader.left();
+        sum = fold(sum, atom_word(&atom, scratch) ^ places(source, place, after).word());
+        atoms += 1;
+        place = after;
+    }
+    Ok(Found { sum, atoms, place: place as u64, budget: budget as u64, last: Places::default() })
 }
 
 #[inline(never)]
 pub fn read_filled(source: &[u8], budget: u64, scratch: &mut Vec<u8>) -> Result<Found, Error> {
-    read(SliceReader::from(source), budget, scratch)
+    read(source, SliceReader::from(source), budget, scratch)
 }
 
 #[inline(never)]
 pub fn read_exact(source: &[u8], budget: u64, scratch: &mut Vec<u8>) -> Result<Found, Error> {
-    read(IoReader::new(source), budget, scratch)
+    read(source, IoReader::new(source), budget, scratch)
 }
 
-fn run_over<'a>(mut reader: impl Source<'a>, budget: u64, scratch: &mut Vec<u8>) -> Result<Found, Error> {
-    let length = reader.left();
+/// The places of the last atom, before which its reader had so much left; zeros if there was none.
+fn last_places<'a>(source: &[u8], before: usize, reader: &impl Source<'a>) -> Places {
+    if before == reader.left() {
+        return Places::default();
+    }
+    places(source, source.len() - before, source.len() - reader.left())
+}
+
+fn run_over<'a>(
+    source: &'a [u8],
+    mut reader: impl Source<'a>,
+    budget: u64,
+    scratch: &mut Vec<u8>,
+) -> Result<Found, Error> {
     let mut budget = budget as usize;
-    let mut atoms = 0;
+    let (mut atoms, mut before) = (0, reader.left());
     while reader.left() > 0 {
+        before = reader.left();
         read_atom(&mut reader, &mut budget, scratch)?;
         atoms += 1;
     }
-    Ok(Found { sum: 0, atoms, place: (length - reader.left()) as u64, budget: budget as u64 })
+    let place = (source.len() - reader.left()) as u64;
+    Ok(Found { sum: 0, atoms, place, budget: budget as u64, last: last_places(source, before, &reader) })
 }
 
 #[inline(never)]
 pub fn run(source: &[u8], budget: u64, scratch: &mut Vec<u8>) -> Result<Found, Error> {
-    run_over(IoReader::new(source), budget, scratch)
+    run_over(source, IoReader::new(source), budget, scratch)
 }
 
 /// The run over the reader that fills: faster, and not what document 01 asks of a run.
 #[inline(never)]
 pub fn run_filled(source: &[u8], budget: u64, scratch: &mut Vec<u8>) -> Result<Found, Error> {
-    run_over(SliceReader::from(source), budget, scratch)
+    run_over(source, SliceReader::from(source), budget, scratch)
 }
 
-fn tally_over<'a>(mut reader: impl Source<'a>, scratch: &mut Vec<u8>) -> Result<Tally, Error> {
+fn tally_over<'a>(source: &'a [u8], mut reader: impl Source<'a>, scratch: &mut Vec<u8>) -> Result<Tally, Error> {
     let mut tally = Tally::default();
-    let mut budget = usize::MAX;
+    let (mut budget, mut before) = (usize::MAX, reader.left());
     while reader.left() > 0 {
-        let before = budget;
+        before = reader.left();
+        let uncharged = budget;
         let atom = read_atom(&mut reader, &mut budget, scratch)?;
         tally.atoms += 1;
-        tally.charge += (before - budget) as u64;
+        tally.charge += (uncharged - budget) as u64;
         match &atom.nucleus {
             Some(Nucleus::Bytes(bytes)) => {
                 tally.body += atom.arg;
@@ -139,17 +182,18 @@ fn tally_over<'a>(mut reader: impl Source<'a>, scratch: &mut Vec<u8>) -> Result<
             _ => {}
         }
     }
+    tally.last = last_places(source, before, &reader);
     Ok(tally)
 }
 
 #[inline(never)]
 pub fn tally(source: &[u8], scratch: &mut Vec<u8>) -> Result<Tally, Error> {
-    tally_over(IoReader::new(source), scratch)
+    tally_over(source, IoReader::new(source), scratch)
 }
 
 #[inline(never)]
 pub fn tally_filled(source: &[u8], scratch: &mut Vec<u8>) -> Result<Tally, Error> {
-    tally_over(SliceReader::from(source), scratch)
+    tally_over(source, SliceReader::from(source), scratch)
 }
 
 /// A letter is a string byte outside 0x80 to 0xBF.
@@ -158,7 +202,7 @@ fn count_letters(bytes: &[u8]) -> u64 {
 }
 
 /// One atom behind a boundary as the library's exports have it: C's calling convention, slices as an address and a number,
-/// 0 or a refusal's number as the answer (4 stands for all of the original's), and eight words. Its reader copies strings
+/// 0 or a refusal's number as the answer (4 stands for all of the original's), and twelve words. Its reader copies strings
 /// into a `Vec`, which it is handed as one.
 #[cfg(feature = "exports")]
 pub type ReadOne = unsafe extern "C" fn(*const u8, usize, usize, u64, &mut Vec<u8>, *mut u64, usize) -> u64;
@@ -191,16 +235,18 @@ fn say<'a>(
     scratch: &mut Vec<u8>,
     words: &mut [u64],
 ) -> u64 {
-    let Some(words) = words.first_chunk_mut::<8>() else {
+    let Some(words) = words.first_chunk_mut::<WORDS>() else {
         return 9;
     };
     let mut budget = budget as usize;
+    let place = source.len() - reader.left();
     let Ok(atom) = read_atom(&mut reader, &mut budget, scratch) else {
         return 4;
     };
-    let place = source.len() - reader.left();
-    let [case, first, second, third] = nucleus_words(&atom, place, scratch);
-    *words = [place as u64, budget as u64, atom.kind as u64, atom.arg, case, first, second, third];
+    let next = source.len() - reader.left();
+    let [case, one, two, three] = nucleus_words(&atom, next, scratch);
+    let Places { first, body, after } = places(source, place, next);
+    *words = [after, budget as u64, atom.kind as u64, atom.arg, case, one, two, three, first, body, after, 0];
     0
 }
 

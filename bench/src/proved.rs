@@ -1,6 +1,8 @@
 //! The proved library's side: the exports of its loops, `crates/test_bench_loops`.
 
-use crate::{Found, Tally};
+#[cfg(feature = "exports")]
+use crate::WORDS;
+use crate::{Found, Places, Tally};
 
 extern "C" {
     fn loop_read(
@@ -52,23 +54,25 @@ pub fn read(source: &[u8], budget: u64, scratch: &mut [u8], way: Way) -> Result<
         )
     };
     let [sum, atoms, place, budget] = out;
-    if refusal == 0 { Ok(Found { sum, atoms, place, budget }) } else { Err(refusal) }
+    if refusal == 0 { Ok(Found { sum, atoms, place, budget, last: Places::default() }) } else { Err(refusal) }
 }
 
 pub fn run(source: &[u8], budget: u64) -> Result<Found, u64> {
-    let mut out = [0; 4];
+    let mut out = [0; 7];
     // SAFETY: as above.
     let refusal = unsafe { loop_run(source.as_ptr(), source.len(), budget, out.as_mut_ptr(), out.len()) };
-    let [atoms, place, budget, _] = out;
-    if refusal == 0 { Ok(Found { sum: 0, atoms, place, budget }) } else { Err(refusal) }
+    let [atoms, place, budget, _, first, body, after] = out;
+    let last = Places { first, body, after };
+    if refusal == 0 { Ok(Found { sum: 0, atoms, place, budget, last }) } else { Err(refusal) }
 }
 
 pub fn tally(source: &[u8]) -> Result<Tally, u64> {
-    let mut out = [0; 4];
+    let mut out = [0; 7];
     // SAFETY: as above.
     let refusal = unsafe { loop_tally(source.as_ptr(), source.len(), out.as_mut_ptr(), out.len()) };
-    let [atoms, body, charge, letters] = out;
-    if refusal == 0 { Ok(Tally { atoms, body, charge, letters }) } else { Err(refusal) }
+    let [atoms, body, charge, letters, first, body_start, after] = out;
+    let last = Places { first, body: body_start, after };
+    if refusal == 0 { Ok(Tally { atoms, body, charge, letters, last }) } else { Err(refusal) }
 }
 
 /// The writers; those before the signature by the number that `loop_write` takes.
@@ -113,7 +117,7 @@ pub fn write(writer: Writer, text: &[u8], values: &[[u64; 2]], out: &mut [u8]) -
     }
 }
 
-// The library's own exports, `crates/exports`: each answers 0 or a refusal's number, and eight words.
+// The library's own exports, `crates/exports`: each answers 0 or a refusal's number, and twelve words.
 #[cfg(feature = "exports")]
 extern "C" {
     fn pot_read_atom(
@@ -146,14 +150,14 @@ extern "C" {
 
 /// One atom through the exports, by the way that names none.
 #[cfg(feature = "exports")]
-pub fn read_one_filled(source: &[u8], place: usize, budget: u64, words: &mut [u64; 8]) -> u64 {
+pub fn read_one_filled(source: &[u8], place: usize, budget: u64, words: &mut [u64; WORDS]) -> u64 {
     // SAFETY: each pointer comes with the length of its own live slice, and the mutable one is distinct.
     unsafe { pot_read_atom(source.as_ptr(), source.len(), place, budget, words.as_mut_ptr(), words.len()) }
 }
 
 /// One atom exactly, a string lent.
 #[cfg(feature = "exports")]
-pub fn read_one_exact(source: &[u8], place: usize, budget: u64, words: &mut [u64; 8]) -> u64 {
+pub fn read_one_exact(source: &[u8], place: usize, budget: u64, words: &mut [u64; WORDS]) -> u64 {
     // SAFETY: as above.
     unsafe { pot_read_atom_exact(source.as_ptr(), source.len(), place, budget, words.as_mut_ptr(), words.len()) }
 }
@@ -165,7 +169,7 @@ pub fn read_one_copied(
     place: usize,
     budget: u64,
     scratch: &mut [u8],
-    words: &mut [u64; 8],
+    words: &mut [u64; WORDS],
 ) -> u64 {
     let (at, length) = (source.as_ptr(), source.len());
     let (room, size) = (scratch.as_mut_ptr(), scratch.len());

@@ -7,9 +7,9 @@ use crate::proved::{Way, Writer};
 #[cfg(feature = "exports")]
 use crate::reader::{IoReader, SliceReader};
 use crate::timing::Race;
-#[cfg(feature = "exports")]
-use crate::Found;
 use crate::{original, proved};
+#[cfg(feature = "exports")]
+use crate::{Found, Places, WORDS};
 
 const BUDGET: u64 = u64::MAX;
 
@@ -59,13 +59,13 @@ fn calls(
     source: &[u8],
     copied: bool,
     original: original::ReadOne,
-    mut library: impl FnMut(usize, u64, &mut [u64; 8]) -> u64,
+    mut library: impl FnMut(usize, u64, &mut [u64; WORDS]) -> u64,
 ) {
     let atoms = proved::run(source, BUDGET).expect("the file is whole").atoms as usize;
     let mut scratch = Vec::new();
     // Behind a boundary a caller does not know the function, and can't have it made for its own arguments.
     let read = std::hint::black_box(original);
-    let mut rust = |place, budget, words: &mut [u64; 8]| {
+    let mut rust = |place, budget, words: &mut [u64; WORDS]| {
         let (at, length) = (source.as_ptr(), source.len());
         // SAFETY: each address comes with the number of what is there.
         unsafe { read(at, length, place, budget, &mut scratch, words.as_mut_ptr(), words.len()) }
@@ -83,9 +83,9 @@ fn boundary(_: &mut Race, _: &str, _: &[u8]) {}
 /// needs: a compiler that makes one load of two has both sides wait, on some ways and not on others, for the stores to end.
 #[cfg(feature = "exports")]
 #[inline(always)]
-fn whole(source: &[u8], copied: bool, read: &mut impl FnMut(usize, u64, &mut [u64; 8]) -> u64) -> Option<Found> {
+fn whole(source: &[u8], copied: bool, read: &mut impl FnMut(usize, u64, &mut [u64; WORDS]) -> u64) -> Option<Found> {
     let (mut sum, mut atoms, mut place, mut budget) = (0, 0, 0, BUDGET);
-    let mut words = [0; 8];
+    let mut words = [0; WORDS];
     while place < source.len() {
         if read(place, budget, &mut words) != 0 {
             return None;
@@ -98,11 +98,12 @@ fn whole(source: &[u8], copied: bool, read: &mut impl FnMut(usize, u64, &mut [u6
             3 => word(5) ^ word(6),
             _ => word(5) ^ word(6) ^ word(7),
         };
-        sum = original::fold(sum, word(2) ^ word(3) ^ case ^ held);
+        let places = Places { first: word(8), body: word(9), after: word(10) };
+        sum = original::fold(sum, word(2) ^ word(3) ^ case ^ held ^ places.word());
         atoms += 1;
         (place, budget) = (word(0) as usize, word(1));
     }
-    Some(Found { sum, atoms, place: place as u64, budget })
+    Some(Found { sum, atoms, place: place as u64, budget, last: Places::default() })
 }
 
 /// Dictionaries of hyphenation patterns; the signature is not an atom.

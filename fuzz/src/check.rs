@@ -4,6 +4,7 @@ use oracle::wire::{Reading, Way};
 
 use crate::call::{Call, Room};
 use crate::expected::{Judge, Said};
+use crate::ffi::POT_WORDS;
 use crate::lent::Lent;
 use crate::proved::{ask, halves, Slice, Slices};
 
@@ -36,7 +37,7 @@ impl Checker {
     }
 
     fn read_back(&mut self, call: &Call<'_>, written: &[u8]) {
-        let room = Room { words: 8, bytes: written.len() };
+        let room = Room { words: POT_WORDS, bytes: written.len() };
         for way in Way::ALL {
             let reading = Reading { way, place: 0, source: written };
             let read = match call {
@@ -51,13 +52,20 @@ impl Checker {
         }
     }
 
-    /// One atom after another, past refused ones too, until the end or until the place stays.
+    /// One atom after another, past refused ones too, until the end or until the place stays. The three places of each
+    /// rise or stay level.
     fn walk(&mut self, mut budget: u64, way: Way, source: &[u8], room: Room) {
-        let room = Room { words: room.words.max(8), ..room };
+        let room = Room { words: room.words.max(POT_WORDS), ..room };
         let mut place = 0;
+        let mut last = [0; 3];
         for _ in 0..LONGEST_WALK {
             let call = Call::ReadAtom(budget, Reading { way, place, source });
             let said = self.compare(&call, room).expect("every atom has an answer");
+            if said.number == 0 {
+                let level = last.into_iter().zip(said.places()).all(|(old, new)| old <= new);
+                assert!(level, "the places fall: {call:?}");
+                last = said.places();
+            }
             let stays = said.words[0] == place;
             (place, budget) = (said.words[0], said.words[1]);
             if stays || place >= source.len() as u64 {
@@ -70,8 +78,8 @@ impl Checker {
     fn compare(&mut self, call: &Call<'_>, room: Room) -> Option<Said> {
         let full = self.judge.expected(call)?;
         let fits = self.with_room(call, full, room.bytes);
-        let short = room.words < 8;
-        let said = if short { Said { number: NO_ROOM, words: [0; 8], bytes: vec![] } } else { fits };
+        let short = room.words < POT_WORDS;
+        let said = if short { Said::new(NO_ROOM, &[], &[]) } else { fits };
         let words: Vec<u8> = said.words.iter().flat_map(|word| word.to_ne_bytes()).collect();
         let first_words = if short { &[][..] } else { &words };
 
@@ -103,12 +111,13 @@ impl Checker {
         if said.bytes.len() <= room {
             return said;
         }
-        let mut words = [0; 8];
-        if let Call::ReadAtom(_, reading) = *call {
-            words[0] = self.judge.header(reading).words[0];
-            words[1] = said.words[1];
+        match *call {
+            Call::ReadAtom(_, reading) => {
+                let past_header = self.judge.header(reading).words[0];
+                Said::new(NO_ROOM, &[past_header, said.words[1]], &[])
+            }
+            _ => Said::new(NO_ROOM, &[], &[]),
         }
-        Said { number: NO_ROOM, words, bytes: vec![] }
     }
 
     fn report(&mut self, call: &Call<'_>, room: Room, number: u64, said: &Said) -> ! {

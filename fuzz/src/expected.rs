@@ -3,25 +3,40 @@
 
 use oracle::answer::{Oracle, RESERVE};
 use oracle::wire::{
-    After, Answer, Answers, Float, Integer, Nucleus, Reading, Refusal, Request, Skip, Text, Value, Variant,
+    After, Answer, Answers, Float, Integer, Nucleus, Places, Reading, Refusal, Request, Skip, Text, Value, Variant, Way,
 };
 
 use crate::call::{Call, Parts};
+use crate::ffi::{POT_AFTER, POT_BODY, POT_FIRST, POT_WORDS};
 use crate::proved::halves;
 
-/// An answer: its number, its eight words, and the bytes that it leaves in the output or the scratch.
+/// An answer: its number, its words, and the bytes that it leaves in the output or the scratch.
 #[derive(Debug, Clone, PartialEq, Eq)]
 pub struct Said {
     pub number: u64,
-    pub words: [u64; 8],
+    pub words: [u64; POT_WORDS],
     pub bytes: Vec<u8>,
 }
 
 impl Said {
-    fn new(number: u64, said: &[u64], bytes: &[u8]) -> Self {
-        let mut words = [0; 8];
+    /// The answer of these words, and zeros behind them.
+    pub fn new(number: u64, said: &[u64], bytes: &[u8]) -> Self {
+        let mut words = [0; POT_WORDS];
         words[..said.len()].copy_from_slice(said);
         Self { number, words, bytes: bytes.to_vec() }
+    }
+
+    /// The answer with the places of an atom.
+    fn at(mut self, places: Places) -> Self {
+        self.words[POT_FIRST] = places.first;
+        self.words[POT_BODY] = places.body;
+        self.words[POT_AFTER] = places.after;
+        self
+    }
+
+    /// The three places that it says.
+    pub const fn places(&self) -> [u64; 3] {
+        [self.words[POT_FIRST], self.words[POT_BODY], self.words[POT_AFTER]]
     }
 
     fn refused(refusal: Refusal) -> Self {
@@ -43,8 +58,8 @@ impl Judge {
     pub fn expected(&mut self, call: &Call<'_>) -> Option<Said> {
         match *call {
             Call::ReadHeader(reading) => self.given(&Request::ReadHeader(reading)),
-            Call::ReadAtom(budget, reading) => self.atom(budget, reading),
-            Call::SkipAtom(budget, reading) => self.skipped(budget, reading),
+            Call::ReadAtom(budget, reading) => Some(self.atom(budget, reading)),
+            Call::SkipAtom(budget, reading) => Some(self.skipped(budget, reading)),
             Call::Run(budget, source) => self.given(&Request::Run(budget, source)),
             Call::Tally(source) => self.given(&Request::Tally(source)),
             Call::WriteHeader(version) => self.given(&Request::WriteHeader(version)),
@@ -100,30 +115,28 @@ impl Judge {
         }
     }
 
-    /// An atom. A string too long for the original to reserve is refused by 4, at the end of the source and charged. A
-    /// float's stored bits, which the original does not keep, stand in the source.
-    fn atom(&mut self, budget: u64, reading: Reading<'_>) -> Option<Said> {
-        let header = self.header(reading);
-        let Some(mut said) = self.given(&Request::ReadAtom(budget, reading)) else {
-            let words = [reading.source.len() as u64, budget - header.words[2]];
-            return Some(Said::new(Refusal::Eof.number(), &words, &[]));
-        };
+    /// An atom. A float's stored bits, which the original does not keep, stand in the source.
+    fn atom(&mut self, budget: u64, reading: Reading<'_>) -> Said {
+        let mut said = self.unless_too_long(&Request::ReadAtom(budget, reading), budget, reading);
         if said.number == 0 && said.words[4] == FLOAT {
-            said.words[7] = stored(reading.source, header.words[0], said.words[3] + 1);
+            said.words[7] = stored(reading.source, said.words[POT_BODY], said.words[3] + 1);
         }
-        Some(said)
+        said
     }
 
-    /// A skip answers as the atom read exactly, but with the start of its body, and whether it is a string.
-    fn skipped(&mut self, budget: u64, reading: Reading<'_>) -> Option<Said> {
-        let reading = Reading { way: oracle::wire::Way::ExactLent, ..reading };
-        let mut said = self.atom(budget, reading)?;
-        if said.number == 0 {
-            let header = self.header(reading);
-            let string = u64::from(said.words[2] == BYTES);
-            said = Said::new(0, &[said.words[0], said.words[1], header.words[0], string], &[]);
-        }
-        Some(said)
+    /// A skip, which is the step under exact reading, whatever way the call names.
+    fn skipped(&mut self, budget: u64, reading: Reading<'_>) -> Said {
+        let reading = Reading { way: Way::ExactLent, ..reading };
+        self.unless_too_long(&Request::Step(budget, reading.place, reading.source), budget, reading)
+    }
+
+    /// The answer to a request about one atom. A string too long for the original to reserve is refused by 4, at the end
+    /// of the source and charged.
+    fn unless_too_long(&mut self, request: &Request<'_>, budget: u64, reading: Reading<'_>) -> Said {
+        self.given(request).unwrap_or_else(|| {
+            let length = self.header(reading).words[2];
+            Said::new(Refusal::Eof.number(), &[reading.source.len() as u64, budget - length], &[])
+        })
     }
 
     /// An atom's header: place, kind and argument, or place.
@@ -132,8 +145,6 @@ impl Judge {
     }
 }
 
-/// The kind of a string.
-const BYTES: u64 = 7;
 /// What an atom of a float holds.
 const FLOAT: u64 = 3;
 
@@ -153,18 +164,32 @@ fn said(after: After, outcome: Result<Value<'_>, Refusal>) -> Said {
         After::Nothing => vec![],
         After::Place(place) => vec![place],
         After::PlaceAndBudget(place, budget) => vec![place, budget],
-        After::Run { place, budget, atoms, start } if outcome.is_err() => vec![place, budget, atoms, start],
+        After::Run { place, budget, atoms, start, .. } if outcome.is_err() => vec![place, budget, atoms, start],
         After::Run { place, budget, atoms, .. } => vec![place, budget, atoms],
+        // A tally that is refused as a whole says 0 where another says the start of the refused atom.
+        After::Last(_) if outcome.is_err() => vec![0],
+        After::Last(_) => vec![],
+        After::LastAndStart(_, start) => vec![start],
     };
+    let places = places(after, outcome);
     match outcome {
         Ok(value) => {
             let bytes = value_words(value, &mut words);
-            Said::new(0, &words, bytes)
+            Said::new(0, &words, bytes).at(places)
         }
         Err(refusal) => {
             words.extend(data(refusal));
-            Said::new(refusal.number(), &words, &[])
+            Said::new(refusal.number(), &words, &[]).at(places)
         }
+    }
+}
+
+/// The places that an answer tells: an atom's own, or those of the last atom of a run or a tally. Zeros in every other.
+fn places(after: After, outcome: Result<Value<'_>, Refusal>) -> Places {
+    match (after, outcome) {
+        (_, Ok(Value::Atom(_, _, places, _) | Value::Step(places, _))) => places,
+        (After::Run { last, .. } | After::Last(last) | After::LastAndStart(last, _), _) => last,
+        _ => Places::default(),
     }
 }
 
@@ -182,10 +207,11 @@ fn value_words<'a>(value: Value<'a>, words: &mut Vec<u64>) -> &'a [u8] {
             return bytes;
         }
         Value::Text(text) => return text_words(text, words),
-        Value::Atom(kind, arg, nucleus) => {
+        Value::Atom(kind, arg, _, nucleus) => {
             words.extend([u64::from(kind), arg]);
             return nucleus_words(nucleus, words);
         }
+        Value::Step(places, string) => words.extend([places.body, u64::from(string)]),
         Value::Tally { atoms, body, charge, letters } => words.extend([atoms, body, charge, letters]),
     }
     &[]

@@ -6,20 +6,21 @@
 use oracle::wire::{Reading, Way, Writer};
 
 use crate::call::{Call, Parts, Room};
+use crate::ffi::POT_WORDS;
 
 const WIDE: u8 = 0xf0;
 /// How many calls there are: those of `Bytes::call`.
 const CALLS: u8 = 38;
 const FIRST_WRITER: u8 = 13;
-/// The largest room for words and for bytes.
-const WORDS: u128 = 12;
+/// The largest room for words, some more than an answer has, and for bytes.
+const MOST_WORDS: u128 = POT_WORDS as u128 + 4;
 const BYTES: u128 = 8192;
 
 /// The call that the bytes stand for, and the room that it is lent.
 pub fn decode(bytes: &[u8]) -> (Call<'_>, Room) {
     let mut bytes = Bytes { rest: bytes };
     let code = bytes.byte() % CALLS;
-    let words = (bytes.number() % (WORDS + 1)) as usize;
+    let words = (bytes.number() % (MOST_WORDS + 1)) as usize;
     let room = (bytes.number() % (BYTES + 1)) as usize;
     (bytes.call(code), Room { words, bytes: room })
 }

@@ -6,6 +6,7 @@ use std::path::Path;
 use oracle::wire::{Float, Integer, Reading, Request, Way};
 
 use crate::call::{Call, Parts, Room};
+use crate::ffi::POT_WORDS;
 use crate::input::encode;
 
 /// Writes an input for each line that an export answers, a vector or a request alone; says how many.
@@ -17,7 +18,7 @@ pub fn write_seeds(lines: impl BufRead, folder: &Path) -> io::Result<usize> {
         let text = line.split(" = ").next().unwrap_or_default();
         let Ok(request) = Request::parse(text.as_bytes(), &mut buffer) else { continue };
         for call in calls(&request) {
-            let room = Room { words: 8, bytes: call.source().len() + 32 };
+            let room = Room { words: POT_WORDS, bytes: call.source().len() + 32 };
             std::fs::write(folder.join(format!("{count:06}")), encode(&call, room))?;
             count += 1;
         }
@@ -34,6 +35,9 @@ fn calls<'a>(request: &Request<'a>) -> Vec<Call<'a>> {
         Request::WriteHeader(version) => vec![Call::WriteHeader(version)],
         Request::Run(budget, source) => vec![Call::Run(budget, source)],
         Request::Tally(source) => vec![Call::Tally(source)],
+        Request::Step(budget, place, source) => {
+            vec![Call::SkipAtom(budget, Reading { way: Way::ExactLent, place, source })]
+        }
         Request::IntegerAs(to, integer) => vec![Call::Cast(to as u64, parts(integer))],
         Request::IntegerAsF32(integer) => vec![Call::AsF32(parts(integer))],
         Request::IntegerAsF64(integer) => vec![Call::AsF64(parts(integer))],

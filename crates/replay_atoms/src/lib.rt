@@ -7,12 +7,6 @@ use types::AtomAnswer;
 use types::Budget;
 use types::BudgetAnswer;
 use types::Nucleus;
-use types::Place;
-use types::Refusal;
-
-fn put_budget(out: &mut [u8], reply: Reply, budget: Budget) -> Reply {
-    replay_wire::put_word(out, reply, budget.0)
-}
 
 // Puts the code of a nucleus, and what it holds. Of a float, the argument tells the bytes that are stored.
 fn put_nucleus(out: &mut [u8], reply: Reply, nucleus: Nucleus, arg: u64, scratch: &[u8]) -> Reply {
@@ -41,33 +35,26 @@ fn put_nucleus(out: &mut [u8], reply: Reply, nucleus: Nucleus, arg: u64, scratch
     }
 }
 
-// Puts an atom: its kind, its argument, what it holds.
+// Puts an atom: its kind, its argument, its places, what it holds.
 fn put_atom(out: &mut [u8], reply: Reply, read: Atom, scratch: &[u8]) -> Reply {
     let kind = read.kind;
+    let places = read.places;
     let nucleus = read.nucleus;
     let kinded = replay_wire::put_kind(out, reply, kind);
-    let put = replay_wire::put_word(out, kinded, read.arg);
+    let argued = replay_wire::put_word(out, kinded, read.arg);
+    let put = replay_wire::put_places(out, argued, places);
     put_nucleus(out, put, nucleus, read.arg, scratch)
-}
-
-// Puts the refusal of an atom: its number, the place, the budget, then its data.
-fn refused(out: &mut [u8], reply: Reply, place: Place, budget: Budget, refusal: Refusal) -> Reply {
-    let numbered = replay_wire::put_word(out, reply, refusal.number());
-    let placed = replay_wire::put_place(out, numbered, place);
-    let put = put_budget(out, placed, budget);
-    replay_wire::put_data(out, put, refusal)
 }
 
 // Puts what an atom read answered.
 pub fn put_answer(out: &mut [u8], reply: Reply, answer: AtomAnswer, scratch: &[u8]) -> Reply {
     match answer {
         AtomAnswer::Read(place, left, read) => {
-            let placed = replay_wire::taken_at(out, reply, place);
-            let put = put_budget(out, placed, left);
+            let put = replay_wire::taken_with(out, reply, place, left);
             return put_atom(out, put, read, scratch);
         }
         AtomAnswer::Refused(place, left, refusal) => {
-            return refused(out, reply, place, left, refusal);
+            return replay_wire::refused_with(out, reply, place, left, refusal);
         }
     }
 }
@@ -97,7 +84,7 @@ fn update_budget(text: &[u8], cursor: Cursor, out: &mut [u8]) -> Reply {
     match atom::update_budget(Budget(budget.value), amount.value) {
         BudgetAnswer::Left(left) => {
             let taken = replay_wire::put_word(out, reply, 0);
-            return put_budget(out, taken, left);
+            return replay_wire::put_word(out, taken, left.0);
         }
         BudgetAnswer::Refused(refusal) => {
             return replay_wire::refused(out, reply, refusal);

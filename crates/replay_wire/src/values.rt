@@ -8,10 +8,12 @@ use crate::put::Reply;
 use crate::put::first;
 use crate::put::put_bytes;
 use crate::put::put_word;
+use types::Budget;
 use types::Kind;
 use types::KindAnswer;
 use types::Mark;
 use types::Place;
+use types::Places;
 use types::Refusal;
 use types::Way;
 use types::Written;
@@ -107,10 +109,26 @@ pub fn put_place(out: &mut [u8], reply: Reply, place: Place) -> Reply {
     put_word(out, reply, place.0 as u64)
 }
 
+// Puts an atom's places.
+pub fn put_places(out: &mut [u8], reply: Reply, places: Places) -> Reply {
+    let first = places.first;
+    let body = places.body;
+    let after = places.after;
+    let started = put_place(out, reply, first);
+    let put = put_place(out, started, body);
+    put_place(out, put, after)
+}
+
 // Puts the start of a reader's answer that was taken: 0, and the place.
 pub fn taken_at(out: &mut [u8], reply: Reply, place: Place) -> Reply {
     let taken = put_word(out, reply, 0);
     put_place(out, taken, place)
+}
+
+// Puts the start of an atom's answer that was taken: 0, the place and the budget.
+pub fn taken_with(out: &mut [u8], reply: Reply, place: Place, budget: Budget) -> Reply {
+    let placed = taken_at(out, reply, place);
+    put_word(out, placed, budget.0)
 }
 
 // Puts an answer that is a truth.
@@ -164,6 +182,20 @@ pub fn refused_at(out: &mut [u8], reply: Reply, place: Place, refusal: Refusal) 
     let numbered = put_word(out, reply, refusal.number());
     let placed = put_place(out, numbered, place);
     put_data(out, placed, refusal)
+}
+
+// Puts the refusal of an atom: its number, the place, the budget, then its data.
+pub fn refused_with(
+    out: &mut [u8],
+    reply: Reply,
+    place: Place,
+    budget: Budget,
+    refusal: Refusal,
+) -> Reply {
+    let numbered = put_word(out, reply, refusal.number());
+    let placed = put_place(out, numbered, place);
+    let put = put_word(out, placed, budget.0);
+    put_data(out, put, refusal)
 }
 
 // Puts what a writer answered, with the bytes that it wrote into a buffer.

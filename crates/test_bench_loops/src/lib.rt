@@ -11,6 +11,7 @@ use types::Kind;
 use types::Mark;
 use types::Nucleus;
 use types::Place;
+use types::Places;
 use types::Ran;
 use types::Special;
 use types::SpecialAnswer;
@@ -84,11 +85,20 @@ fn nucleus_word(source: &[u8], scratch: &[u8], nucleus: Nucleus) -> u64 {
     }
 }
 
+// The three places of an atom, each at its own bits.
+fn places_word(places: Places) -> u64 {
+    let first = places.first;
+    let body = places.body;
+    let after = places.after;
+    first.0 as u64 ^ ((body.0 as u64) << 20) ^ ((after.0 as u64) << 40)
+}
+
 fn atom_word(source: &[u8], scratch: &[u8], atom: Atom) -> u64 {
     let kind = atom.kind;
     let arg = atom.arg;
+    let places = atom.places;
     let nucleus = atom.nucleus;
-    nucleus_word(source, scratch, nucleus) ^ kind.code() as u64 ^ arg
+    nucleus_word(source, scratch, nucleus) ^ kind.code() as u64 ^ arg ^ places_word(places)
 }
 
 fn answer4(out: &mut [u64], a: u64, b: u64, c: u64, d: u64) {
@@ -99,6 +109,19 @@ fn answer4(out: &mut [u64], a: u64, b: u64, c: u64, d: u64) {
     out[1] = b;
     out[2] = c;
     out[3] = d;
+}
+
+// The places of the last atom, behind the four words.
+fn answer_last(out: &mut [u64], last: Places) {
+    let first = last.first;
+    let body = last.body;
+    let after = last.after;
+    if out.len() < 7 {
+        return;
+    }
+    out[4] = first.0 as u64;
+    out[5] = body.0 as u64;
+    out[6] = after.0 as u64;
 }
 
 fn way_of(code: u64) -> Way {
@@ -147,26 +170,30 @@ pub extern "C" fn loop_read(
     0
 }
 
-// Runs over a file.
+// Runs over a file. Answers a refusal's number or 0, and the atoms, the place, the budget, where the refused atom
+// starts, and the last atom's places.
 #[no_mangle]
 pub extern "C" fn loop_run(source: &[u8], budget: u64, out: &mut [u64]) -> u64 {
     match dictionary::run(source, Budget(budget)) {
-        Ran::Done(place, rest, atoms) => {
+        Ran::Done(place, rest, atoms, last) => {
             answer4(out, atoms, place.0 as u64, rest.0, 0);
+            answer_last(out, last);
             return 0;
         }
-        Ran::Stopped(place, rest, atoms, refusal, start) => {
+        Ran::Stopped(place, rest, atoms, last, refusal, start) => {
             answer4(out, atoms, place.0 as u64, rest.0, start.0 as u64);
+            answer_last(out, last);
             return refusal.number();
         }
     }
 }
 
-// Tallies a file.
+// Tallies a file. Answers a refusal's number or 0, and what the file holds or where the refused atom starts, and the
+// last atom's places.
 #[no_mangle]
 pub extern "C" fn loop_tally(source: &[u8], out: &mut [u64]) -> u64 {
     match dictionary::tally(source) {
-        TallyAnswer::Done(tallied) => {
+        TallyAnswer::Done(last, tallied) => {
             answer4(
                 out,
                 tallied.atoms,
@@ -174,14 +201,17 @@ pub extern "C" fn loop_tally(source: &[u8], out: &mut [u64]) -> u64 {
                 tallied.charge,
                 tallied.letters,
             );
+            answer_last(out, last);
             return 0;
         }
-        TallyAnswer::Stopped(place, refusal) => {
-            answer4(out, place.0 as u64, 0, 0, 0);
+        TallyAnswer::Stopped(last, refusal, start) => {
+            answer4(out, start.0 as u64, 0, 0, 0);
+            answer_last(out, last);
             return refusal.number();
         }
-        TallyAnswer::Refused(refusal) => {
+        TallyAnswer::Refused(last, refusal) => {
             answer4(out, 0, 0, 0, 0);
+            answer_last(out, last);
             return refusal.number();
         }
     }

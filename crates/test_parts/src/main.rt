@@ -1,13 +1,15 @@
 // Runs `reader::as_slice`, and the read of an atom that names no way. Each line written is the part that a mark says,
-// in brackets. What the program is held to was worked out from document 01's text apart from it: "`as_slice` hands back
-// a part of the source or of the scratch, as the delivery mark says; a mark reaching past the slice it names gives the
-// empty part at that slice's end", and "The entry that names no way is filled".
+// in brackets, or an atom's three places. What the program is held to was worked out from document 01's text apart from
+// it: "`as_slice` hands back a part of the source or of the scratch, as the delivery mark says; a mark reaching past the
+// slice it names gives the empty part at that slice's end", and "The entry that names no way is filled"; and from K1's:
+// "its first place, the place where its body starts and the place after it".
 use libc::STDOUT_FILENO;
 use types::AtomAnswer;
 use types::Budget;
 use types::Mark;
 use types::Nucleus;
 use types::Place;
+use types::Places;
 use types::Way;
 
 // Writes a part.
@@ -25,12 +27,27 @@ fn put_both<'a>(source: &'a [u8], scratch: &'a [u8], start: usize, len: usize) {
     put_part(reader::as_slice(source, scratch, Mark { start, len, lent }));
 }
 
-// Writes the string of an answer, or what else it is.
+// Writes an atom's places.
+fn put_places(places: Places) {
+    let first = places.first;
+    let body = places.body;
+    let after = places.after;
+    io::print_decimal(STDOUT_FILENO, first.0 as u64);
+    io::write_all(STDOUT_FILENO, b" ");
+    io::print_decimal(STDOUT_FILENO, body.0 as u64);
+    io::write_all(STDOUT_FILENO, b" ");
+    io::print_decimal(STDOUT_FILENO, after.0 as u64);
+    io::write_all(STDOUT_FILENO, b"\n");
+}
+
+// Writes the places and the string of an answer, or what else it is.
 fn put_string<'a>(source: &'a [u8], scratch: &'a [u8], answer: AtomAnswer) {
     let AtomAnswer::Read(_, _, atom) = answer else {
         io::write_all(STDOUT_FILENO, b"refused\n");
         return;
     };
+    let places = atom.places;
+    put_places(places);
     let nucleus = atom.nucleus;
     let Nucleus::Bytes(mark) = nucleus else {
         io::write_all(STDOUT_FILENO, b"no string\n");

@@ -37,6 +37,7 @@ impl Answers for Oracle {
             0x10 | 0x11 | 0x20..=0x26 => self.answer_reader(request),
             0x29..=0x2a => self.answer_whole(request),
             0x2b => self.answer_sequence(request),
+            0x2c => self.answer_step(request),
             0x12 | 0x13 | 0x3e | 0x54 | 0x60..=0x7f => self.answer_writer(request),
             0x30..=0x55 => casts::answer_cast(request),
             _ => answer_code(request),

@@ -1,11 +1,11 @@
 //! Reads, both ways.
 
 use super::numbers::{told_float, told_integer};
-use super::source::{exact, filled, place, Source};
+use super::source::{exact, filled, place, read_placed, Source};
 use super::{kind, size, Oracle};
-use crate::format::{read_atom, read_atom_header, read_header, Atom, Float, Integer, Kind, Nucleus};
+use crate::format::{read_atom_header, read_header, Atom, Float, Integer, Kind, Nucleus};
 use crate::reader::BufferedBytes;
-use crate::wire::{self, After, Answer, Reading, Refusal, Request, Skip, Text, Value, Way};
+use crate::wire::{self, After, Answer, Places, Reading, Refusal, Request, Skip, Text, Value, Way};
 use crate::Error;
 
 impl Oracle {
@@ -50,10 +50,26 @@ impl Oracle {
 
     fn atom<'s, 'a>(&'s mut self, reader: &mut impl Source<'a>, budget: u64, reading: &Reading<'a>) -> Answer<'s> {
         let mut budget = size(budget);
-        let outcome = read_atom(reader, &mut budget, &mut self.scratch);
-        let place = place(reader, reading);
-        let outcome = outcome.map(|atom| told_atom(&atom, &self.scratch, place, reading));
-        Answer::Given(After::PlaceAndBudget(place, budget as u64), outcome.map_err(Refusal::from))
+        let outcome = read_placed(reader, reading, &mut budget, &mut self.scratch);
+        let after = After::PlaceAndBudget(place(reader, reading), budget as u64);
+        let outcome = outcome.map(|(atom, places)| told_atom(&atom, places, &self.scratch, reading));
+        Answer::Given(after, outcome.map_err(Refusal::from))
+    }
+
+    /// The step, which the original does not have: an atom read exactly, its value forgotten.
+    pub(super) fn answer_step<'a>(&mut self, request: &Request<'a>) -> Answer<'static> {
+        let Request::Step(budget, place, source) = *request else {
+            unreachable!("every other code is answered elsewhere")
+        };
+        let reading = Reading { way: Way::ExactLent, place, source };
+        match self.answer_reader(&Request::ReadAtom(budget, reading)) {
+            Answer::Given(after, Ok(Value::Atom(kind, _, places, _))) => {
+                Answer::Given(after, Ok(Value::Step(places, kind == Kind::Bytes as u8)))
+            }
+            Answer::Given(after, Err(refusal)) => Answer::Given(after, Err(refusal)),
+            Answer::Skipped(skip) => Answer::Skipped(skip),
+            _ => unreachable!("an atom is answered by an atom"),
+        }
     }
 
     fn string<'s, 'a>(
@@ -118,19 +134,19 @@ fn reading_of<'a>(request: &Request<'a>) -> Reading<'a> {
     }
 }
 
-fn told_atom<'a>(atom: &Atom<'_>, scratch: &'a [u8], place: u64, reading: &Reading<'_>) -> Value<'a> {
+fn told_atom<'a>(atom: &Atom<'_>, places: Places, scratch: &'a [u8], reading: &Reading<'_>) -> Value<'a> {
     let nucleus = match &atom.nucleus {
         None => wire::Nucleus::None,
         Some(Nucleus::Boolean(boolean)) => wire::Nucleus::Boolean(*boolean),
         Some(Nucleus::Integer(integer)) => wire::Nucleus::Integer(told_integer(*integer)),
         Some(Nucleus::Float(float)) => wire::Nucleus::Float(told_float(*float)),
-        Some(Nucleus::Bytes(bytes)) => wire::Nucleus::Bytes(told_text(bytes, scratch, place, reading)),
+        Some(Nucleus::Bytes(bytes)) => wire::Nucleus::Bytes(told_text(bytes, scratch, places.after, reading)),
         Some(Nucleus::Unit) => wire::Nucleus::Unit,
         Some(Nucleus::Named) => wire::Nucleus::Named,
         Some(Nucleus::DynamicMap) => wire::Nucleus::DynamicMap,
         Some(Nucleus::DynamicEnd) => wire::Nucleus::DynamicEnd,
     };
-    Value::Atom(atom.kind as u8, atom.arg, nucleus)
+    Value::Atom(atom.kind as u8, atom.arg, places, nucleus)
 }
 
 /// A string as the request's way delivers it. The original has no lent string under exact reading: there the copied

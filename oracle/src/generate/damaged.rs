@@ -44,7 +44,8 @@ pub fn file(random: &mut Random, sink: &mut Sink<impl Write>) -> io::Result<()> 
     Ok(())
 }
 
-/// A run, a tally, as many atoms as the file had from one reader, and an atom at one of the places where atoms started.
+/// A run, a tally, as many atoms as the file had from one reader, and at one of the places where atoms started an atom
+/// and a step.
 fn ask(random: &mut Random, sink: &mut Sink<impl Write>, file: &File, source: &[u8]) -> io::Result<()> {
     let budget = match random.below(4) {
         0 => file.charge.saturating_sub(1),
@@ -55,5 +56,6 @@ fn ask(random: &mut Random, sink: &mut Sink<impl Write>, file: &File, source: &[
     sink.put(&Request::Tally(source))?;
     sink.put(&Request::Sequence(budget, source, HeldReads::new(file.starts.iter().map(|_| HeldRead::Atom))))?;
     let reading = Reading { way: *random.pick(&Way::ALL), place: *random.pick(&file.starts), source };
-    sink.put(&Request::ReadAtom(budget, reading))
+    sink.put(&Request::ReadAtom(budget, reading))?;
+    sink.put(&Request::Step(budget, reading.place, source))
 }

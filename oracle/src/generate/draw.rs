@@ -22,7 +22,7 @@ impl Drawer {
     pub fn draw(&mut self, code: u8, sink: &mut Sink<impl Write>) -> io::Result<()> {
         self.bytes.clear();
         let request = match code {
-            0x10..=0x11 | 0x20..=0x26 => self.reader(code),
+            0x10..=0x11 | 0x20..=0x26 | code::STEP => self.reader(code),
             0x27..=0x2a => self.whole(code),
             code::SEQUENCE => self.sequence(),
             0x30..=0x4f => self.integer(code),
@@ -40,7 +40,7 @@ impl Drawer {
         let kind = kind_for(random, code);
         let word = match code {
             code::READ_HEADER => put_signature(random, &mut self.bytes),
-            code::READ_ATOM_HEADER | code::READ_ATOM => put_atom(random, &mut self.bytes),
+            code::READ_ATOM_HEADER | code::READ_ATOM | code::STEP => put_atom(random, &mut self.bytes),
             _ => put_counted(random, &mut self.bytes, code, kind),
         };
         let body = self.bytes.len() - before;
@@ -56,6 +56,7 @@ impl Drawer {
             code::BUFFERED_READ_BYTES => Request::BufferedReadBytes(word, reading),
             code::READ => Request::Read(word, reading),
             code::READ_EXACT => Request::ReadExact(word, reading),
+            code::STEP => Request::Step(word, reading.place, reading.source),
             _ => Request::Remaining(reading),
         }
     }

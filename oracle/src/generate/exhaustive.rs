@@ -70,23 +70,24 @@ fn written_headers(sink: &mut Sink<impl Write>) -> io::Result<()> {
     Ok(())
 }
 
-/// Every source of up to two bytes, as a header and as an atom.
+/// Every source of up to two bytes, as a header and as an atom, by every way and stepped over.
 fn short_headers(sink: &mut Sink<impl Write>) -> io::Result<()> {
-    for way in Way::ALL {
-        both(sink, way, &[])?;
-        for first in 0..=u8::MAX {
-            both(sink, way, &[first])?;
-            for second in 0..=u8::MAX {
-                both(sink, way, &[first, second])?;
-            }
+    every_way(sink, &[])?;
+    for first in 0..=u8::MAX {
+        every_way(sink, &[first])?;
+        for second in 0..=u8::MAX {
+            every_way(sink, &[first, second])?;
         }
     }
     Ok(())
 }
 
-fn both(sink: &mut Sink<impl Write>, way: Way, source: &[u8]) -> io::Result<()> {
-    sink.put(&Request::ReadAtomHeader(start(way, source)))?;
-    sink.put(&Request::ReadAtom(u64::MAX, start(way, source)))
+fn every_way(sink: &mut Sink<impl Write>, source: &[u8]) -> io::Result<()> {
+    for way in Way::ALL {
+        sink.put(&Request::ReadAtomHeader(start(way, source)))?;
+        sink.put(&Request::ReadAtom(u64::MAX, start(way, source)))?;
+    }
+    sink.put(&Request::Step(u64::MAX, 0, source))
 }
 
 /// All integers of one and two bytes: read, written, made and cast.

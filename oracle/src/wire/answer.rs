@@ -78,6 +78,22 @@ impl Text<'_> {
     }
 }
 
+/// Where an atom stands in its source: its first place, the place where its body starts and the place after it.
+#[derive(Debug, Clone, Copy, Default, PartialEq, Eq)]
+pub struct Places {
+    pub first: u64,
+    pub body: u64,
+    pub after: u64,
+}
+
+impl Places {
+    fn put(self, line: &mut Vec<u8>) {
+        for place in [self.first, self.body, self.after] {
+            put_word(line, place);
+        }
+    }
+}
+
 /// What an atom holds.
 #[derive(Debug, Clone, Copy, PartialEq, Eq)]
 pub enum Nucleus<'a> {
@@ -130,8 +146,15 @@ pub enum Value<'a> {
     Float(Float),
     Bytes(&'a [u8]),
     Text(Text<'a>),
-    Atom(u8, u64, Nucleus<'a>),
-    Tally { atoms: u64, body: u64, charge: u64, letters: u64 },
+    Atom(u8, u64, Places, Nucleus<'a>),
+    /// Of an atom that was stepped over: its places, and whether it is a string.
+    Step(Places, bool),
+    Tally {
+        atoms: u64,
+        body: u64,
+        charge: u64,
+        letters: u64,
+    },
 }
 
 impl Value<'_> {
@@ -148,10 +171,15 @@ impl Value<'_> {
             Self::Float(float) => float.put(line),
             Self::Bytes(bytes) => put_bytes(line, bytes),
             Self::Text(text) => text.put(line),
-            Self::Atom(kind, arg, nucleus) => {
+            Self::Atom(kind, arg, places, nucleus) => {
                 put_word(line, u64::from(kind));
                 put_word(line, arg);
+                places.put(line);
                 nucleus.put(line);
+            }
+            Self::Step(places, string) => {
+                places.put(line);
+                put_word(line, u64::from(string));
             }
             Self::Tally { atoms, body, charge, letters } => {
                 for word in [atoms, body, charge, letters] {
@@ -168,13 +196,19 @@ pub enum After {
     Nothing,
     Place(u64),
     PlaceAndBudget(u64, u64),
-    /// Of a run also the number of atoms read, and where the refused atom starts (the place, if none was refused).
+    /// Of a run also the number of atoms read, where the refused atom starts (the place, if none was refused), and the
+    /// places of the last atom that was read.
     Run {
         place: u64,
         budget: u64,
         atoms: u64,
         start: u64,
+        last: Places,
     },
+    /// Of a tally the places of the last atom that was read.
+    Last(Places),
+    /// Of a tally that an atom stopped also where that one starts.
+    LastAndStart(Places, u64),
 }
 
 impl After {
@@ -186,10 +220,16 @@ impl After {
                 put_word(line, place);
                 put_word(line, budget);
             }
-            Self::Run { place, budget, atoms, start } => {
+            Self::Run { place, budget, atoms, start, last } => {
                 for word in [place, budget, atoms, start] {
                     put_word(line, word);
                 }
+                last.put(line);
+            }
+            Self::Last(last) => last.put(line),
+            Self::LastAndStart(last, start) => {
+                last.put(line);
+                put_word(line, start);
             }
         }
     }

@@ -9,7 +9,7 @@ mod sequence;
 mod serve;
 mod words;
 
-pub use answer::{After, Answer, Nucleus, Refusal, Skip, Text, Value};
+pub use answer::{After, Answer, Nucleus, Places, Refusal, Skip, Text, Value};
 pub use number::{Float, Integer, Variant, Writer};
 pub use request::{Reading, Request, Way};
 pub use sequence::{HeldRead, HeldReads};

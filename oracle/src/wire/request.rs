@@ -73,6 +73,8 @@ pub enum Request<'a> {
     Run(u64, &'a [u8]),
     Tally(&'a [u8]),
     Sequence(u64, &'a [u8], HeldReads),
+    /// A budget, a place and a source: the atom there is read exactly, and its value forgotten.
+    Step(u64, u64, &'a [u8]),
     IntegerAs(Variant, Integer),
     IntegerAsF32(Integer),
     IntegerAsF64(Integer),
@@ -144,6 +146,7 @@ impl<'a> Request<'a> {
             code::RUN => Self::Run(words.word()?, words.bytes(buffer)?),
             code::TALLY => Self::Tally(words.bytes(buffer)?),
             code::SEQUENCE => Self::Sequence(words.word()?, words.bytes(buffer)?, HeldReads::parse(words)?),
+            code::STEP => Self::Step(words.word()?, words.word()?, words.bytes(buffer)?),
             _ => return Err(UNKNOWN_CODE),
         })
     }
@@ -217,6 +220,7 @@ impl<'a> Request<'a> {
             Self::Run(..) => code::RUN,
             Self::Tally(..) => code::TALLY,
             Self::Sequence(..) => code::SEQUENCE,
+            Self::Step(..) => code::STEP,
             Self::IntegerAs(variant, _) => code::INTEGER_AS + *variant as u8,
             Self::IntegerAsF32(..) => code::INTEGER_AS_F32,
             Self::IntegerAsF64(..) => code::INTEGER_AS_F64,
@@ -282,6 +286,11 @@ impl<'a> Request<'a> {
                 put_word(line, budget);
                 put_bytes(line, source);
                 reads.put(line);
+            }
+            Self::Step(budget, place, source) => {
+                put_word(line, budget);
+                put_word(line, place);
+                put_bytes(line, source);
             }
             Self::Tally(bytes) | Self::WriteBytes(bytes) => put_bytes(line, bytes),
             Self::IntegerAs(_, integer)
