@@ -9,7 +9,7 @@ use lib.ListN.{length, take, drop}
 use Rattle.types.specs.Choice.{pick}
 use Rattle.types.specs.Counters.{placeIn, placesOf, noPlaces}
 use Rattle.types.specs.Kinds.{specialFrom, specialKnown}
-use Rattle.types.specs.Forms.{countOf, known, chargeOf, unknown}
+use Rattle.types.specs.Forms.{countOf, known, chargeOf, isString, unknown}
 use Rattle.types.specs.declared.Way.{Way}
 use Rattle.types.specs.declared.Kind.{Kind}
 use Rattle.types.specs.declared.Kind.the-variants as K
@@ -46,30 +46,13 @@ use Rattle.atom.specs.Atoms.{atomRead}
 use Rattle.dictionary.specs.Steps.{forgotten}
 use Rattle.words.specs.Layout.{Said, saidAtom, saidSkipped, saidRan, saidTally}
 
--- ---- the words are the places of the answer
+-- ---- the words
 
 abbrev pub placesSaid : Said → List ℕ
 placesSaid said = take 3 (drop 8 (said .words))
 
 abbrev pub placesLaid : Places → List ℕ
 placesLaid places = places .first .0 ∷ places .body .0 ∷ places .after .0 ∷ []
-
--- those of an atom that was read are its own
-pub atom-places : (p : Place) (b : Budget) (x : Atom) → placesSaid (saidAtom (A.Read p b x)) ≡ placesLaid (x .places)
-unfolding saidAtom
-atom-places p b x = refl
-
--- those of a refused one are zeros
-pub refused-places : (p : Place) (b : Budget) (r : Refusal) →
-    placesSaid (saidAtom (A.Refused p b r)) ≡ placesLaid noPlaces
-unfolding saidAtom
-refused-places p b r = refl
-
--- the step, which is the read with the value forgotten, answers the same
-pub step-places : (a : AtomAnswer) → placesSaid (saidSkipped (forgotten a)) ≡ placesSaid (saidAtom a)
-unfolding saidAtom saidSkipped
-step-places (A.Read p b x) = refl
-step-places (A.Refused p b r) = refl
 
 -- those of a run and of a tally, refused or not, are those of the last atom that was read
 abbrev pub lastRan : Ran → Places
@@ -91,6 +74,25 @@ unfolding saidTally
 tally-places (TA.Done last t) = refl
 tally-places (TA.Stopped last r start) = refl
 tally-places (TA.Refused last r) = refl
+
+-- those of an atom that is refused, read or skipped, are zeros
+pub refused-places : (p : Place) (b : Budget) (r : Refusal) →
+    (placesSaid (saidAtom (A.Refused p b r)) ≡ placesLaid noPlaces)
+    × (placesSaid (saidSkipped (SK.Refused p b r)) ≡ placesLaid noPlaces)
+unfolding saidAtom saidSkipped
+refused-places p b r = (refl, refl)
+
+-- those of an atom that is skipped are its own
+pub skipped-places : (p : Place) (b : Budget) (places : Places) (string : Bool) →
+    placesSaid (saidSkipped (SK.Past p b places string)) ≡ placesLaid places
+unfolding saidSkipped
+skipped-places p b places string = refl
+
+-- and those of an atom that is read too, of which the place after it is the answer's
+read-said : (p : Place) (b : Budget) (x : Atom) →
+    placesSaid (saidAtom (A.Read p b x)) ≡ x .places .first .0 ∷ x .places .body .0 ∷ p .0 ∷ []
+unfolding saidAtom
+read-said p b x = refl
 
 -- ---- where an atom stands that is read: it starts at `first`, its body at `next`, and the place after it is the answer's
 
@@ -144,7 +146,7 @@ module _ (first next : Place) where
       (unknown kind arg) (taken-stands arg rest way s kind scratch))
 
 -- EVERY ATOM THAT IS READ, whatever the way: it starts at the given place, or at the end if that is past it; its body
--- starts where its header ends; and the place after it is where the reader stands
+-- starts where its header ends; and the place after it is that of the answer
 module _ (way : Way) (s : List ℕ) (place : ℕ) (budget : Budget) (scratch : List ℕ) (p : Place) (b : Budget) (x : Atom)
     (next : Place) (kind : Kind) (arg : ℕ) (h : headerRead way s place ≡ H.Read next kind arg)
     (e : atomRead way s place budget scratch ≡ A.Read p b x) where
@@ -155,7 +157,15 @@ module _ (way : Way) (s : List ℕ) (place : ℕ) (budget : Budget) (scratch : L
       (ap (atomFrom way s (firstPlace s place) budget scratch) (sym h) ∙ e)
       (header-stands (firstPlace s place) next way s budget scratch kind arg)
 
-  -- and its words say so
-  pub read-places : placesSaid (saidAtom (atomRead way s place budget scratch))
-      ≡ placeIn (length s) place ∷ next .0 ∷ p .0 ∷ []
-  read-places = ap (λ (a : AtomAnswer). placesSaid (saidAtom a)) e ∙ atom-places p b x ∙ ap placesLaid atom-stands
+  -- its words are its places
+  pub read-places : placesSaid (saidAtom (atomRead way s place budget scratch)) ≡ placesLaid (x .places)
+  read-places =
+      ap (λ (a : AtomAnswer). placesSaid (saidAtom a)) e ∙ read-said p b x
+      ∙ ap (λ (at : Places). at .first .0 ∷ at .body .0 ∷ p .0 ∷ []) atom-stands ∙ ap placesLaid (sym atom-stands)
+
+  -- and so are those of the step, which is the read with the value forgotten
+  pub step-places :
+      placesSaid (saidSkipped (forgotten (atomRead way s place budget scratch))) ≡ placesLaid (x .places)
+  step-places =
+      ap (λ (a : AtomAnswer). placesSaid (saidSkipped (forgotten a))) e
+      ∙ skipped-places p b (x .places) (isString (x .kind))
