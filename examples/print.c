@@ -1,6 +1,7 @@
-/* Prints the atoms of a dictionary file, one to a line: print FILE. Read exactly: a refusal is printed with its number and
- * where the refused atom starts, and the status is 1; it is 2 if there is no file to read. rust/examples/print.rs is the same
- * program, but for the digits of a float and for strings that are not UTF-8. */
+/* Prints the atoms of a dictionary file, one to a line: print FILE. A line begins with the atom's places in the file,
+ * as first..body..after. Read exactly: a refusal is printed with its number and where the refused atom starts, and the
+ * status is 1; it is 2 if there is no file to read. rust/examples/print.rs is the same program, but for the digits of a
+ * float and for strings that are not UTF-8. */
 #include "dimewagon.h"
 #include <inttypes.h>
 #include <stdio.h>
@@ -36,7 +37,8 @@ static void print_float(uint64_t width, uint64_t bits)
 
 static void print_atom(const uint8_t *source, const uint64_t *words)
 {
-    printf("%s %" PRIu64, kinds[words[2]], words[3]);
+    printf("%" PRIu64 "..%" PRIu64 "..%" PRIu64, words[POT_FIRST], words[POT_BODY], words[POT_AFTER]);
+    printf(" %s %" PRIu64, kinds[words[2]], words[3]);
     switch (words[4]) {
     case POT_BOOLEAN: printf(words[5] ? " true" : " false"); break;
     case POT_INTEGER: print_integer(words[5], words[6], words[7]); break;

@@ -5,9 +5,17 @@
  *     while (!refusal && words[0] < length)
  *         refusal = pot_read_atom_exact(file, length, words[0], UINT64_MAX, words, POT_WORDS);
  *
- * Every function answers a number and writes eight words. The number is 0, or the refusal's. All eight words are written by
- * every call, with zeros where nothing is said, except that an array of fewer than eight is refused by 9 and nothing is done.
- * What the words hold, from word 0 on, is said at each function; the data of a refusal are two words, named at its number.
+ * Every function answers a number and writes twelve words. The number is 0, or the refusal's. All twelve are written by
+ * every call, with zeros where nothing is said, except that an array of fewer is refused by 9 and nothing is done. What
+ * the words hold, from word 0 on, is said at each function; the data of a refusal are two words, named at its number.
+ *
+ * Words 8 to 10 are the places of an atom, none below the one before: its first place, where its body starts, and the
+ * place after it. They are those of the atom that was read or skipped; of a run or a tally, refused or not, those of
+ * the last atom that it read. They are zeros where it read none, of an atom that is refused, and in all other answers.
+ * Word 11 is 0, kept for what is to come.
+ *
+ * A program compiled when there were eight words hands over arrays of eight, which are refused by 9: size its arrays by
+ * POT_WORDS and compile it again. Words 0 to 7 mean what they meant.
  *
  * A slice is a pointer and a length. Of length 0 the pointer may dangle, but it must not be null; the data() of an empty
  * std::vector may be null. Slices that are written to must not overlap others. A place counts bytes from the source's start,
@@ -25,7 +33,12 @@ extern "C" {
 #endif
 
 /* The words that a call writes. */
-#define POT_WORDS 8
+#define POT_WORDS 12
+
+/* The words of an atom's places: its first place, where its body starts, and the place after it. */
+#define POT_FIRST 8
+#define POT_BODY 9
+#define POT_AFTER 10
 
 /* The refusals. */
 enum {
@@ -39,7 +52,7 @@ enum {
                                              * here answers it */
     POT_IMPRECISE_CAST_WOULD_LOSE_DATA = 8, /* a cast that would lose data, or a value that its writer or variant does not
                                              * hold */
-    POT_NO_ROOM = 9,                        /* no room in `out`, in `scratch`, or for the eight words */
+    POT_NO_ROOM = 9,                        /* no room in `out`, in `scratch`, or for the twelve words */
     POT_TOO_LONG = 10                       /* a tally's input of more than 16,777,216 bytes */
 };
 
@@ -78,24 +91,26 @@ enum { POT_I8, POT_I16, POT_I32, POT_I64, POT_I128, POT_U8, POT_U16, POT_U32, PO
 uint64_t pot_read_header(const uint8_t *source, size_t source_len, size_t place, uint64_t *words, size_t words_len);
 uint64_t pot_read_header_exact(const uint8_t *source, size_t source_len, size_t place, uint64_t *words, size_t words_len);
 
-/* Reads one atom at a place, with a budget for what its value takes in memory. Words: place after, budget left; then kind,
- * argument, what it holds and its three words, or the refusal's data. The first takes number and header bytes past the end
- * as zeros; the others refuse them. The third copies a string into the scratch; the others answer where it is in the source. */
+/* Reads one atom at a place, with a budget for what its value takes in memory. Words: place after, budget left; then
+ * kind, argument, what it holds, its three words and its places; or the refusal's data. The first takes number and
+ * header bytes past the end as zeros, so that an atom at the end has the end for all its places; the others refuse
+ * them. The third copies a string into the scratch; the others answer where it is in the source. */
 uint64_t pot_read_atom(const uint8_t *source, size_t source_len, size_t place, uint64_t budget, uint64_t *words, size_t words_len);
 uint64_t pot_read_atom_exact(const uint8_t *source, size_t source_len, size_t place, uint64_t budget, uint64_t *words, size_t words_len);
 uint64_t pot_read_atom_copied(const uint8_t *source, size_t source_len, size_t place, uint64_t budget, uint8_t *scratch, size_t scratch_len, uint64_t *words, size_t words_len);
 
-/* Reads one atom exactly and builds no value. Words: place after, budget left; then where its body starts and 1 if it is a
- * string, or the refusal's data. */
+/* Reads one atom exactly and builds no value. Words: place after, budget left; then where its body starts, 1 if it is a
+ * string, and its places in words 8 to 10; or the refusal's data. */
 uint64_t pot_skip_atom(const uint8_t *source, size_t source_len, size_t place, uint64_t budget, uint64_t *words, size_t words_len);
 
-/* Reads all atoms of a source, which has no signature, exactly. Words: place, budget left, atoms; of a refused atom also where
- * it starts, and the data. */
+/* Reads all atoms of a source, which has no signature, exactly. Words: place, budget left, atoms; of a refused atom
+ * also where it starts, and the data; the places of the last atom that was read in words 8 to 10. */
 uint64_t pot_run(const uint8_t *source, size_t source_len, uint64_t budget, uint64_t *words, size_t words_len);
 
 /* Counts all atoms of a source, which has no signature, exactly and without a budget. Words: atoms, body bytes, charge,
- * letters; or where the refused atom starts, and the data. An input that is too long is refused as a whole: it has no place,
- * and its words are zeros. A letter is a string's byte outside 0x80 to 0xBF. */
+ * letters; or where the refused atom starts, and the data; the places of the last atom that was read in words 8 to 10.
+ * An input that is too long is refused as a whole: it has no place, and its words are zeros. A letter is a string's
+ * byte outside 0x80 to 0xBF. */
 uint64_t pot_tally(const uint8_t *source, size_t source_len, uint64_t *words, size_t words_len);
 
 /* Writers. Each writes to the first bytes of `out`, in the fewest, or nothing. Words: how many bytes, or the data. */

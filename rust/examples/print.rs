@@ -1,9 +1,10 @@
-//! Prints the atoms of a dictionary file, one to a line: `print FILE`. Read exactly: a refusal is printed with its number and
-//! where the refused atom starts, and the status is 1; it is 2 if there is no file to read. examples/print.c is the same
-//! program, but for the digits of a float and for strings that are not UTF-8.
+//! Prints the atoms of a dictionary file, one to a line: `print FILE`. A line begins with the atom's places in the
+//! file, as `first..body..after`. Read exactly: a refusal is printed with its number and where the refused atom starts,
+//! and the status is 1; it is 2 if there is no file to read. examples/print.c is the same program, but for the digits of
+//! a float and for strings that are not UTF-8.
 use std::process::ExitCode;
 
-use dimewagon::{Atom, Atoms, Integer, Nucleus, Stopped};
+use dimewagon::{Atom, Atoms, Integer, Nucleus, Places, Stopped};
 
 /// An atom's line; a 128-bit integer in hexadecimal, another in decimal.
 fn shown(atom: Atom<'_>) -> String {
@@ -16,7 +17,8 @@ fn shown(atom: Atom<'_>) -> String {
         Nucleus::Bytes(string) => format!(" {}", String::from_utf8_lossy(string)),
         _ => String::new(),
     };
-    format!("{:?} {}{held}", atom.kind, atom.arg)
+    let Places { first, body, after, .. } = atom.places;
+    format!("{first}..{body}..{after} {:?} {}{held}", atom.kind, atom.arg)
 }
 
 fn print(file: &[u8]) -> Result<(), Stopped> {

@@ -1,17 +1,20 @@
 //! The functions of the library on slices and numbers. All unsafe code of this crate is here.
 #![allow(unsafe_code)]
 
-use crate::ffi;
+use crate::ffi::{self, POT_WORDS};
 
-/// What a call answers: its number, and the eight words that it wrote.
-pub(crate) type Answer = (u64, [u64; 8]);
+/// The words that a call writes.
+pub(crate) type Words = [u64; POT_WORDS];
+
+/// What a call answers: its number, and its words.
+pub(crate) type Answer = (u64, Words);
 
 /// The functions that read a source.
 macro_rules! readers {
     ($($name:ident($($number:ident: $type:ident),*))*) => {
         $(
             pub(crate) fn $name(source: &[u8], $($number: $type),*) -> Answer {
-                let mut words = [0; 8];
+                let mut words = [0; POT_WORDS];
                 // SAFETY: each pointer and length are those of one slice, which lives through the call; the words are ours.
                 let number = unsafe {
                     ffi::$name(source.as_ptr(), source.len(), $($number,)* words.as_mut_ptr(), words.len())
@@ -33,7 +36,7 @@ readers! {
 }
 
 pub(crate) fn pot_read_atom_copied(source: &[u8], place: usize, budget: u64, scratch: &mut [u8]) -> Answer {
-    let mut words = [0; 8];
+    let mut words = [0; POT_WORDS];
     let (start, room) = (scratch.as_mut_ptr(), scratch.len());
     // SAFETY: as above; the scratch is borrowed alone, so it overlaps neither the source nor the words.
     let number = unsafe {
@@ -48,7 +51,7 @@ macro_rules! writers {
     ($($name:ident($($number:ident: $type:ident),*))*) => {
         $(
             pub(crate) fn $name(out: &mut [u8], $($number: $type),*) -> Answer {
-                let mut words = [0; 8];
+                let mut words = [0; POT_WORDS];
                 // SAFETY: each pointer and length are those of one slice, which is borrowed alone through the call.
                 let number = unsafe {
                     ffi::$name(out.as_mut_ptr(), out.len(), $($number,)* words.as_mut_ptr(), words.len())
@@ -87,7 +90,7 @@ writers! {
 }
 
 pub(crate) fn pot_write_bytes(out: &mut [u8], value: &[u8]) -> Answer {
-    let mut words = [0; 8];
+    let mut words = [0; POT_WORDS];
     let (start, room) = (out.as_mut_ptr(), out.len());
     // SAFETY: as above; the buffer is borrowed alone, so it overlaps neither the value nor the words.
     let number =
@@ -100,7 +103,7 @@ macro_rules! casts {
     ($($name:ident($($number:ident: $type:ident),*))*) => {
         $(
             pub(crate) fn $name($($number: $type),*) -> Answer {
-                let mut words = [0; 8];
+                let mut words = [0; POT_WORDS];
                 // SAFETY: the pointer and the length are those of the words, which are ours.
                 let number = unsafe { ffi::$name($($number,)* words.as_mut_ptr(), words.len()) };
                 (number, words)

@@ -1,6 +1,15 @@
 //! The functions of `include/dimewagon.h`, as they are; what each expects and answers is said there.
 #![allow(missing_docs)]
 
+/// How many words a call writes; an array of fewer is refused by 9, and nothing is done.
+pub const POT_WORDS: usize = 12;
+/// The word of an atom's first place.
+pub const POT_FIRST: usize = 8;
+/// The word of the place where its body starts.
+pub const POT_BODY: usize = 9;
+/// The word of the place after it.
+pub const POT_AFTER: usize = 10;
+
 #[rustfmt::skip]
 extern "C" {
     pub fn pot_read_header(source: *const u8, source_len: usize, place: usize, words: *mut u64, words_len: usize) -> u64;

@@ -2,7 +2,8 @@
 //!
 //! Reading is exact: anything past the end of the source is refused, with the refusal's number and the place. Only
 //! [`read_atom`] and [`read_header`] take the bytes that are missing as zeros. Strings are lent: they are parts of the source.
-//! Places count from the start of the slice that was given. No function panics, whatever it is given.
+//! Places count from the start of the slice that was given, and each atom carries its own. No function panics, whatever
+//! it is given.
 //!
 //! ```
 //! use dimewagon::{Atoms, Integer, Nucleus};
@@ -13,6 +14,7 @@
 //! let atoms: Vec<_> = atoms.collect::<Result<_, _>>()?;
 //! assert_eq!(atoms[0].nucleus, Nucleus::Bytes("né".as_bytes()));
 //! assert_eq!(atoms[1].nucleus, Nucleus::Integer(Integer::U16(300)));
+//! assert_eq!(file[atoms[1].places.range()], [0x41, 0x2C, 0x01]);
 //!
 //! // The same file without its last byte.
 //! let (_, cut) = Atoms::of_file(&file[..10])?;

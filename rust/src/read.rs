@@ -1,7 +1,7 @@
 use std::iter::FusedIterator;
 
 use crate::calls::{self, Answer};
-use crate::{Atom, Kind, Nucleus, Refusal, Refused, Stopped};
+use crate::{Atom, Kind, Nucleus, Places, Refusal, Refused, Stopped};
 
 /// An atom that was read.
 #[derive(Clone, Copy, Debug, PartialEq)]
@@ -20,9 +20,9 @@ fn read((number, w): Answer, bytes: &[u8], start: usize) -> Result<Read<'_>, Sto
     let (place, budget) = (w[0] as usize, w[1]);
     if number != 0 {
         let refusal = Refusal::of(number, w[2], w[3]);
-        return Err(Stopped { refusal, place, budget, start, atoms: 0 });
+        return Err(Stopped { refusal, place, budget, start, atoms: 0, last: Places::of(&w) });
     }
-    let atom = Atom { kind: Kind::of(w[2]), arg: w[3], nucleus: Nucleus::of(&w, bytes) };
+    let atom = Atom { kind: Kind::of(w[2]), arg: w[3], places: Places::of(&w), nucleus: Nucleus::of(&w, bytes) };
     Ok(Read { atom, place, budget })
 }
 
@@ -31,7 +31,7 @@ fn version((number, w): Answer, source: &[u8]) -> Result<(u8, &[u8]), Stopped> {
     let place = w[0] as usize;
     if number != 0 {
         let refusal = Refusal::of(number, 0, 0);
-        return Err(Stopped { refusal, place, budget: 0, start: 0, atoms: 0 });
+        return Err(Stopped { refusal, place, budget: 0, start: 0, atoms: 0, last: Places::of(&w) });
     }
     Ok((w[1] as u8, &source[place..]))
 }
@@ -118,8 +118,8 @@ pub struct Skipped {
     pub place: usize,
     /// The budget left.
     pub budget: u64,
-    /// Where its body starts.
-    pub body: usize,
+    /// Where it stands in the source.
+    pub places: Places,
     /// Whether it is a string.
     pub string: bool,
 }
@@ -127,8 +127,10 @@ pub struct Skipped {
 /// Reads one atom at a place exactly, and builds no value.
 ///
 /// ```
-/// let skipped = dimewagon::skip_atom(&[0xE2, 0x61, 0x62, 0x00], 0, 9)?;
-/// assert_eq!((skipped.body, skipped.place, skipped.budget, skipped.string), (1, 3, 7, true));
+/// let source = [0xE2, 0x61, 0x62, 0x00];
+/// let skipped = dimewagon::skip_atom(&source, 0, 9)?;
+/// assert_eq!((skipped.place, skipped.budget, skipped.string), (3, 7, true));
+/// assert_eq!(&source[skipped.places.body_range()], b"ab");
 /// # Ok::<(), dimewagon::Stopped>(())
 /// ```
 pub fn skip_atom(source: &[u8], place: usize, budget: u64) -> Result<Skipped, Stopped> {
@@ -136,18 +138,19 @@ pub fn skip_atom(source: &[u8], place: usize, budget: u64) -> Result<Skipped, St
     let (start, place, budget) = (place.min(source.len()), w[0] as usize, w[1]);
     if number != 0 {
         let refusal = Refusal::of(number, w[2], w[3]);
-        return Err(Stopped { refusal, place, budget, start, atoms: 0 });
+        return Err(Stopped { refusal, place, budget, start, atoms: 0, last: Places::of(&w) });
     }
-    Ok(Skipped { place, budget, body: w[2] as usize, string: w[3] == 1 })
+    Ok(Skipped { place, budget, places: Places::of(&w), string: w[3] == 1 })
 }
 
-/// The atoms of a source, read exactly, until its end or the first refusal.
+/// The atoms of a source, read exactly, until its end or the first refusal. Each starts where the one before ends.
 #[derive(Clone, Debug)]
 pub struct Atoms<'a> {
     source: &'a [u8],
     place: usize,
     budget: u64,
     atoms: u64,
+    last: Places,
     stopped: bool,
 }
 
@@ -157,8 +160,10 @@ impl<'a> Atoms<'a> {
     /// ```
     /// let (version, mut atoms) = dimewagon::Atoms::of_file(b"Pot\x01\x40\x05\x24")?;
     /// assert_eq!(version, 1);
-    /// assert!(atoms.next().unwrap().is_ok());
-    /// assert_eq!(atoms.next().unwrap().unwrap_err().start, 6);
+    /// let number = atoms.next().unwrap()?;
+    /// assert_eq!(number.places.range(), 4..6);
+    /// let stopped = atoms.next().unwrap().unwrap_err();
+    /// assert_eq!((stopped.start, stopped.last), (6, number.places));
     /// assert!(atoms.next().is_none());
     /// # Ok::<(), dimewagon::Stopped>(())
     /// ```
@@ -186,7 +191,7 @@ impl<'a> Atoms<'a> {
     /// assert_eq!(atoms.next().unwrap().unwrap_err().refusal, Refusal::TooManyBytesRead);
     /// ```
     pub fn with_budget(source: &'a [u8], budget: u64) -> Self {
-        Self { source, place: 0, budget, atoms: 0, stopped: false }
+        Self { source, place: 0, budget, atoms: 0, last: Places::default(), stopped: false }
     }
 
     /// The place after the atoms that were read.
@@ -221,14 +226,14 @@ impl<'a> Iterator for Atoms<'a> {
         }
         match read_atom_exact(self.source, self.place, self.budget) {
             Ok(read) => {
-                (self.place, self.budget) = (read.place, read.budget);
+                (self.place, self.budget, self.last) = (read.place, read.budget, read.atom.places);
                 self.atoms += 1;
                 Some(Ok(read.atom))
             }
             Err(stopped) => {
                 (self.place, self.budget) = (stopped.place, stopped.budget);
                 self.stopped = true;
-                Some(Err(Stopped { atoms: self.atoms, ..stopped }))
+                Some(Err(Stopped { atoms: self.atoms, last: self.last, ..stopped }))
             }
         }
     }
@@ -250,6 +255,8 @@ pub struct Ran {
     pub atoms: u64,
     /// The budget left.
     pub budget: u64,
+    /// The places of the last atom that was read, zeros if there was none.
+    pub last: Places,
 }
 
 /// Reads all atoms of a source, which has no signature, exactly, and builds no value.
@@ -257,19 +264,20 @@ pub struct Ran {
 /// ```
 /// let source = [0xE3, 0x6E, 0xC3, 0xA9, 0x41, 0x2C, 0x01];
 /// let ran = dimewagon::run(&source, 20)?;
-/// assert_eq!((ran.atoms, ran.budget), (2, 15));
+/// assert_eq!((ran.atoms, ran.budget, ran.last.range()), (2, 15, 4..7));
 /// let stopped = dimewagon::run(&source, 4).unwrap_err();
 /// assert_eq!(stopped.to_string(), "refusal 5 at 4: the budget is exceeded");
+/// assert_eq!((stopped.atoms, stopped.last.range()), (1, 0..4));
 /// # Ok::<(), dimewagon::Stopped>(())
 /// ```
 pub fn run(source: &[u8], budget: u64) -> Result<Ran, Stopped> {
     let (number, w) = calls::pot_run(source, budget);
-    let (place, budget, atoms) = (w[0] as usize, w[1], w[2]);
+    let (place, budget, atoms, last) = (w[0] as usize, w[1], w[2], Places::of(&w));
     if number != 0 {
         let refusal = Refusal::of(number, w[4], w[5]);
-        return Err(Stopped { refusal, place, budget, start: w[3] as usize, atoms });
+        return Err(Stopped { refusal, place, budget, start: w[3] as usize, atoms, last });
     }
-    Ok(Ran { atoms, budget })
+    Ok(Ran { atoms, budget, last })
 }
 
 /// What a source holds.
@@ -284,6 +292,8 @@ pub struct Tally {
     pub charge: u64,
     /// The letters of their strings.
     pub letters: u64,
+    /// The places of the last atom, zeros if there was none.
+    pub last: Places,
 }
 
 /// Counts all atoms of a source, which has no signature, exactly and without a budget. An input of more than 16,777,216
@@ -292,14 +302,17 @@ pub struct Tally {
 /// ```
 /// let tally = dimewagon::tally(&[0xE3, 0x6E, 0xC3, 0xA9, 0x41, 0x2C, 0x01])?;
 /// assert_eq!((tally.atoms, tally.body, tally.charge, tally.letters), (2, 5, 5, 2));
+/// assert_eq!(tally.last.range(), 4..7);
 /// let refused = dimewagon::tally(&[0x40, 0x00, 0x24]).unwrap_err();
 /// assert_eq!(refused.to_string(), "refusal 6 at 2: Int of 5 bytes");
+/// assert_eq!(refused.last.range(), 0..2);
 /// # Ok::<(), dimewagon::Refused>(())
 /// ```
 pub fn tally(source: &[u8]) -> Result<Tally, Refused> {
     let (number, w) = calls::pot_tally(source);
+    let last = Places::of(&w);
     if number != 0 {
-        return Err(Refused { refusal: Refusal::of(number, w[1], w[2]), start: w[0] as usize });
+        return Err(Refused { refusal: Refusal::of(number, w[1], w[2]), start: w[0] as usize, last });
     }
-    Ok(Tally { atoms: w[0], body: w[1], charge: w[2], letters: w[3] })
+    Ok(Tally { atoms: w[0], body: w[1], charge: w[2], letters: w[3], last })
 }

@@ -1,7 +1,7 @@
 use std::error::Error;
 use std::fmt;
 
-use crate::Kind;
+use crate::{Kind, Places};
 
 /// Why something was refused. Each refusal has a number, the same in every language, and its text begins with it.
 ///
@@ -104,6 +104,12 @@ impl Error for Refusal {}
 
 /// A refusal, and where the refused atom starts. Its text has both, or the refusal alone where there is no place, so it
 /// names no source.
+///
+/// ```
+/// let refused = dimewagon::tally(&[0x40, 0x05, 0x07]).unwrap_err();
+/// assert_eq!(refused.to_string(), "refusal 3 at 2: unknown special 7");
+/// assert_eq!(refused.last.range(), 0..2);
+/// ```
 #[derive(Clone, Copy, Debug, PartialEq, Eq, Hash)]
 #[non_exhaustive]
 pub struct Refused {
@@ -112,6 +118,8 @@ pub struct Refused {
     /// Where the refused atom starts; 0 of a signature. An input that is too long, [`Refusal::TooLong`], has no place:
     /// there this is 0 and says nothing.
     pub start: usize,
+    /// The places of the last atom that was read before it, by the same tally, run or iterator, zeros if there was none.
+    pub last: Places,
 }
 
 impl fmt::Display for Refused {
@@ -127,6 +135,17 @@ impl fmt::Display for Refused {
 impl Error for Refused {}
 
 /// A refusal, and where reading stopped. Its text is that of [`Refused`].
+///
+/// ```
+/// use dimewagon::{read_atom_exact, run, Places};
+///
+/// let source = [0x40, 0x05, 0x07];
+/// let stopped = run(&source, 9).unwrap_err();
+/// assert_eq!((stopped.start, stopped.atoms, stopped.last.range()), (2, 1, 0..2));
+/// // One atom alone has none before it.
+/// let stopped = read_atom_exact(&source, 2, 9).unwrap_err();
+/// assert_eq!((stopped.start, stopped.atoms, stopped.last), (2, 0, Places::default()));
+/// ```
 #[derive(Clone, Copy, Debug, PartialEq, Eq, Hash)]
 #[non_exhaustive]
 pub struct Stopped {
@@ -140,11 +159,13 @@ pub struct Stopped {
     pub start: usize,
     /// How many atoms were read before it, by the same run or iterator.
     pub atoms: u64,
+    /// The places of the last of these atoms, zeros if there was none.
+    pub last: Places,
 }
 
 impl From<Stopped> for Refused {
     fn from(stopped: Stopped) -> Self {
-        Self { refusal: stopped.refusal, start: stopped.start }
+        Self { refusal: stopped.refusal, start: stopped.start, last: stopped.last }
     }
 }
 

@@ -1,10 +1,12 @@
 use std::fmt;
+use std::ops::Range;
 
-use crate::calls::{self, Answer};
+use crate::calls::{self, Answer, Words};
+use crate::ffi::{POT_AFTER, POT_BODY, POT_FIRST};
 use crate::Refusal;
 
 /// What a call answers that can be refused: something of its words.
-pub(crate) fn answered<T>((number, w): Answer, of: impl FnOnce([u64; 8]) -> T) -> Result<T, Refusal> {
+pub(crate) fn answered<T>((number, w): Answer, of: impl FnOnce(Words) -> T) -> Result<T, Refusal> {
     match number {
         0 => Ok(of(w)),
         _ => Err(Refusal::of(number, w[0], w[1])),
@@ -357,7 +359,7 @@ pub enum Nucleus<'a> {
 }
 
 impl<'a> Nucleus<'a> {
-    pub(crate) fn of(w: &[u64; 8], bytes: &'a [u8]) -> Self {
+    pub(crate) fn of(w: &Words, bytes: &'a [u8]) -> Self {
         match w[4] {
             0 => Self::None,
             1 => Self::Boolean(w[5] == 1),
@@ -415,7 +417,83 @@ impl<'a> Nucleus<'a> {
     }
 }
 
-/// A kind, its argument, and the value that follows, if any.
+/// Where an atom stands in its source: three places, none below the one before, and ranges that index the source. All
+/// three are 0 where there was no atom.
+///
+/// ```
+/// use dimewagon::{Atoms, Places};
+///
+/// let source = [0x00, 0x51, 0x00, 0x2C, 0x01];
+/// let number = Atoms::new(&source).nth(1).unwrap()?;
+/// let Places { first, body, after, .. } = number.places;
+/// assert_eq!((first, body, after), (1, 3, 5));
+/// assert_eq!(source[number.places.body_range()], 300_u16.to_le_bytes());
+/// # Ok::<(), dimewagon::Stopped>(())
+/// ```
+#[derive(Clone, Copy, Debug, Default, PartialEq, Eq, Hash)]
+#[non_exhaustive]
+pub struct Places {
+    /// Its first place.
+    pub first: usize,
+    /// The place where its body starts, past its header; of an atom without a body, the place after it.
+    pub body: usize,
+    /// The place after it.
+    pub after: usize,
+}
+
+impl Places {
+    pub(crate) fn of(w: &Words) -> Self {
+        Self { first: w[POT_FIRST] as usize, body: w[POT_BODY] as usize, after: w[POT_AFTER] as usize }
+    }
+
+    /// Its bytes.
+    ///
+    /// ```
+    /// let source = [0x00, 0xE2, 0x61, 0x62, 0x01];
+    /// let string = dimewagon::read_atom_exact(&source, 1, 9)?.atom;
+    /// assert_eq!(source[string.places.range()], [0xE2, 0x61, 0x62]);
+    /// # Ok::<(), dimewagon::Stopped>(())
+    /// ```
+    pub fn range(self) -> Range<usize> {
+        self.first..self.after
+    }
+
+    /// The bytes of its header.
+    ///
+    /// ```
+    /// let source = [0x00, 0xE2, 0x61, 0x62, 0x01];
+    /// let string = dimewagon::read_atom_exact(&source, 1, 9)?.atom;
+    /// assert_eq!(source[string.places.header_range()], [0xE2]);
+    /// # Ok::<(), dimewagon::Stopped>(())
+    /// ```
+    pub fn header_range(self) -> Range<usize> {
+        self.first..self.body
+    }
+
+    /// The bytes of its body: a number as it is stored, a string, or none.
+    ///
+    /// ```
+    /// let source = [0x00, 0xE2, 0x61, 0x62, 0x01];
+    /// let string = dimewagon::read_atom_exact(&source, 1, 9)?.atom;
+    /// assert_eq!(source[string.places.body_range()], [0x61, 0x62]);
+    /// # Ok::<(), dimewagon::Stopped>(())
+    /// ```
+    pub fn body_range(self) -> Range<usize> {
+        self.body..self.after
+    }
+}
+
+/// A kind, its argument, its places, and the value that follows, if any. Two are equal only if their places are too:
+/// kind, argument and nucleus say whether they hold the same.
+///
+/// ```
+/// let source = [0x40, 0x05, 0x40, 0x05];
+/// let atoms: Vec<_> = dimewagon::Atoms::new(&source).collect::<Result<_, _>>()?;
+/// assert_eq!((atoms[0].places.range(), atoms[1].places.range()), (0..2, 2..4));
+/// assert_eq!(atoms[0].nucleus, atoms[1].nucleus);
+/// assert_ne!(atoms[0], atoms[1]);
+/// # Ok::<(), dimewagon::Stopped>(())
+/// ```
 #[derive(Clone, Copy, Debug, PartialEq)]
 #[non_exhaustive]
 pub struct Atom<'a> {
@@ -423,6 +501,8 @@ pub struct Atom<'a> {
     pub kind: Kind,
     /// The argument.
     pub arg: u64,
+    /// Where it stands in the source.
+    pub places: Places,
     /// What it holds.
     pub nucleus: Nucleus<'a>,
 }

@@ -11,13 +11,27 @@ fn read_all(source: &[u8], place: usize, budget: u64) {
     let exact = read_atom_exact(source, place, budget);
     let mut scratch = [0; 64];
     assert_same(read_atom_copied(source, place, budget, &mut scratch), exact);
-    let skipped = skip_atom(source, place, budget);
-    assert_eq!(skipped.map(|atom| (atom.place, atom.budget)), exact.map(|read| (read.place, read.budget)));
+    let skipped = skip_atom(source, place, budget).map(|atom| (atom.place, atom.budget, atom.places));
+    assert_eq!(skipped, exact.map(|read| (read.place, read.budget, read.atom.places)));
+    let filled = read_atom(source, place, budget);
     if let Ok(read) = exact {
-        assert_same(read_atom(source, place, budget), exact);
+        assert_same(filled, exact);
         convert(read.atom.nucleus);
     }
-    let _ = (read_atom(source, place, budget), read_header(source), Atoms::of_file(source));
+    if let Ok(read) = filled {
+        stands(&read, source, place);
+    }
+    let _ = (read_header(source), Atoms::of_file(source));
+}
+
+/// The places of an atom that was read at a place.
+fn stands(read: &Read<'_>, source: &[u8], place: usize) {
+    let places = read.atom.places;
+    assert_eq!((places.first, places.after), (place.min(source.len()), read.place));
+    assert_eq!([&source[places.header_range()], &source[places.body_range()]].concat(), source[places.range()]);
+    if let Some(string) = read.atom.nucleus.bytes() {
+        assert_eq!(&source[places.body_range()], string);
+    }
 }
 
 /// Casts a number by every function.
@@ -34,24 +48,24 @@ fn convert(nucleus: Nucleus<'_>) {
     }
 }
 
-/// The iterator, the run and the tally find the same atoms and the same refusal.
+/// The iterator, the run and the tally find the same atoms, the same last one and the same refusal.
 fn walk(source: &[u8], budget: u64) {
     let mut atoms = Atoms::with_budget(source, budget);
-    let mut count = 0;
+    let (mut count, mut last) = (0, Places::default());
     let refused = loop {
         match atoms.next() {
-            Some(Ok(_)) => count += 1,
+            Some(Ok(atom)) => (count, last) = (count + 1, atom.places),
             Some(Err(stopped)) => break Some(stopped),
             None => break None,
         }
     };
     assert!(atoms.next().is_none());
     match run(source, budget) {
-        Ok(ran) => assert_eq!((ran.atoms, ran.budget, refused), (count, atoms.budget(), None)),
-        Err(stopped) => assert_eq!(refused, Some(stopped)),
+        Ok(ran) => assert_eq!((ran.atoms, ran.budget, ran.last, refused), (count, atoms.budget(), last, None)),
+        Err(stopped) => assert_eq!((stopped.last, Some(stopped)), (last, refused)),
     }
     match (tally(source), refused) {
-        (Ok(tally), None) => assert_eq!(tally.atoms, count),
+        (Ok(tally), None) => assert_eq!((tally.atoms, tally.last), (count, last)),
         (Err(by_tally), Some(stopped)) if stopped.refusal != Refusal::TooManyBytesRead => {
             assert_eq!(by_tally, stopped.into())
         }

@@ -15,7 +15,8 @@ fn examples() -> Vec<(&'static str, &'static str, &'static str)> {
             (Some(name), None) => block = Some(name),
             (Some(_), Some(_)) => block = None,
             (None, Some(name)) => {
-                let (left, right) = line.split_once("  ").unwrap_or_else(|| panic!("an example without an answer: {line}"));
+                let (left, right) =
+                    line.split_once("  ").unwrap_or_else(|| panic!("an example without an answer: {line}"));
                 found.push((name, left, right.trim()));
             }
             (None, None) => {}
@@ -31,7 +32,9 @@ fn bytes(text: &str) -> Vec<u8> {
 /// A refusal by its number and data.
 fn refused(refusal: Refusal) -> String {
     match refusal {
-        Refusal::InvalidKind(value) | Refusal::UnknownSpecial(value) => format!("refusal {} of {value}", refusal.number()),
+        Refusal::InvalidKind(value) | Refusal::UnknownSpecial(value) => {
+            format!("refusal {} of {value}", refusal.number())
+        }
         Refusal::UnsupportedByteCount(kind, count) => format!("refusal {} of {kind:?}, {count}", refusal.number()),
         Refusal::UnexpectedKind(kind, wanted) => format!("refusal {} of {kind:?}, {wanted:?}", refusal.number()),
         _ => format!("refusal {}", refusal.number()),
@@ -77,6 +80,25 @@ fn file(source: &[u8]) -> String {
     }
 }
 
+fn three(places: Places) -> String {
+    format!("{}..{}..{}", places.first, places.body, places.after)
+}
+
+/// The places of atoms that are not refused.
+fn places(atoms: Atoms<'_>) -> String {
+    atoms.map(|atom| three(atom.unwrap().places)).collect::<Vec<_>>().join(" ")
+}
+
+/// The last atom's places, which the run and the tally have to answer alike.
+fn last(source: &[u8]) -> String {
+    let (ran, tallied) = (run(source, 99), tally(source));
+    assert_eq!(ran.map(|ran| ran.last).map_err(Refused::from), tallied.map(|tally| tally.last));
+    match tallied {
+        Ok(tally) => three(tally.last),
+        Err(stopped) => format!("{}; {}", refused(stopped.refusal), three(stopped.last)),
+    }
+}
+
 /// The lengths to which a file can be cut and is still read to its end without a refusal.
 fn cuts(file: &[u8]) -> String {
     let whole = |cut: &[u8]| match Atoms::of_file(cut) {
@@ -114,12 +136,28 @@ fn every_example_of_the_page_is_so() {
             "signature" => signature(&bytes(left)),
             "file" => file(&bytes(left)),
             "cuts" => cuts(&bytes(left)),
+            "places" => places(Atoms::new(&bytes(left))),
+            "file places" => places(Atoms::of_file(&bytes(left)).unwrap().1),
+            "filled places" => three(read_atom(&bytes(left), 0, 99).unwrap().atom.places),
+            "last places" => last(&bytes(left)),
             "written" => written(left),
             _ => panic!("no block is called {block}"),
         };
         assert_eq!(answer, right, "{block}: {left}");
         *ran.entry(block).or_insert(0) += 1;
     }
-    let expected = [("cuts", 1), ("exact", 32), ("exact, budget 3", 5), ("file", 6), ("filled", 4), ("signature", 6), ("written", 11)];
+    let expected = [
+        ("cuts", 1),
+        ("exact", 32),
+        ("exact, budget 3", 5),
+        ("file", 6),
+        ("file places", 1),
+        ("filled", 4),
+        ("filled places", 4),
+        ("last places", 5),
+        ("places", 4),
+        ("signature", 6),
+        ("written", 11),
+    ];
     assert_eq!(ran.into_iter().collect::<Vec<_>>(), expected);
 }

@@ -15,7 +15,7 @@ use lib.ListN.{length, drop}
 use borrow.Author.Tests.{ltb-true, ltb-false, leb-true, leb-false, le-ltb, lt-ltb, ne-eqb}
 use Rattle.types.specs.Choice.{pick}
 use Rattle.types.specs.Ways.{exact}
-use Rattle.types.specs.Counters.{placeIn}
+use Rattle.types.specs.Counters.{placeIn, placesOf}
 use Rattle.types.specs.Kinds.{kindCode, kindFrom}
 use Rattle.types.specs.Forms.{allowedCount, allowedFloat, countOf, numberCharge, known, bodyLength, chargeOf, isString}
 use Rattle.types.specs.Forms.{unknown, unsupported}
@@ -43,9 +43,9 @@ use Rattle.float.specs.Floats.{floatOf, floatBody}
 use Rattle.float.proofs.Counts.{allowed-is}
 use Rattle.atom.specs.Atoms.{atomRead, atomScratch, atomFrom, scratchFrom, atomAfter, scratchAfter, charged, judged}
 use Rattle.atom.specs.Atoms.{specialTaken, integerTaken, floatTaken, bytesTaken, integerAtom, bytesAtom}
-use Rattle.atom.specs.Atoms.{scratchCharged}
+use Rattle.atom.specs.Atoms.{scratchCharged, firstPlace}
 use Rattle.atom.proofs.Answers.{free}
-use Rattle.promises.specs.Told.{Told, told, markTold, integerTold, floatTold, toldAtom}
+use Rattle.promises.specs.Told.{Told, told, placesTold, markTold, integerTold, floatTold, toldAtom}
 use Rattle.promises.specs.Held.{held, copied}
 use Rattle.promises.specs.Rows.{Row, three, four-in-header, four-in-body, five, six, nine, read, Good}
 use Rattle.promises.specs.Rows.{Number, int, uint, float, canEnd, roomOf, refusal, taking, endOf, less}
@@ -88,26 +88,30 @@ its-count K.Float float arg = refl
 no-room : (way : Way) (kind : Kind) (arg : ℕ) → isString kind ≡ false → roomOf way kind arg ≡ 0
 no-room way kind arg i = ap (λ (b : Bool). pick b (scratchNeeded way arg) 0) i
 
-module _ (way : Way) (s : List ℕ) (budget : Budget) (scratch : List ℕ) (next : Place) (arg : ℕ) where
+module _ (way : Way) (s : List ℕ) (place : ℕ) (budget : Budget) (scratch : List ℕ) (next : Place) (arg : ℕ) where
+  -- an atom that was read, told by where it ends, the budget that it leaves and what it holds
+  abbrev ending : Kind → ℕ → ℕ → List ℤ → Told
+  ending kind end rest holds =
+      told 0
+      (pos end ∷ pos rest ∷ pos (kindCode kind) ∷ pos arg
+      ∷ placesTold (placesOf (firstPlace s place) next (record { 0 = end })) holds)
+
   -- the row of a read, by the place, the budget and the scratch that it leaves, and by what it holds
-  read-as : (kind : Kind) (place rest : ℕ) (after : List ℕ) (holds : List ℤ) →
+  read-as : (kind : Kind) (end rest : ℕ) (after : List ℕ) (holds : List ℤ) →
       Good way s budget scratch next kind arg →
-      placeIn (length s) (next .0 + bodyLength kind arg) ≡ place → budget .0 - chargeOf kind arg ≡ rest →
+      placeIn (length s) (next .0 + bodyLength kind arg) ≡ end → budget .0 - chargeOf kind arg ≡ rest →
       copied s (next .0) (roomOf way kind arg) scratch ≡ after → held way s (next .0) kind arg ≡ holds →
-      Row way s budget scratch (H.Read next kind arg)
-      (told 0 (pos place ∷ pos rest ∷ pos (kindCode kind) ∷ pos arg ∷ holds)) after
-  read-as kind place rest after holds g e f h k =
-      let answer : taking way s next budget kind arg
-      ≡ told 0 (pos place ∷ pos rest ∷ pos (kindCode kind) ∷ pos arg ∷ holds) = cc in
-      subst (λ (x : Told). Row way s budget scratch (H.Read next kind arg) x after) answer
-      (subst (λ (t : List ℕ). Row way s budget scratch (H.Read next kind arg) (taking way s next budget kind arg) t) h
-      (read g))
+      Row way s place budget scratch (H.Read next kind arg) (ending kind end rest holds) after
+  read-as kind end rest after holds g e f h k =
+      let answer : taking way s place next budget kind arg ≡ ending kind end rest holds = cc in
+      subst (λ (x : Told). Row way s place budget scratch (H.Read next kind arg) x after) answer
+      (subst (λ (t : List ℕ). Row way s place budget scratch (H.Read next kind arg)
+      (taking way s place next budget kind arg) t) h (read g))
 
   -- a header only
   headed : (kind : Kind) (holds : List ℤ) → known kind arg ≡ true → bodyLength kind arg ≡ 0 →
       chargeOf kind arg ≡ 0 → isString kind ≡ false → held way s (next .0) kind arg ≡ holds → next .0 ≤ length s →
-      Row way s budget scratch (H.Read next kind arg)
-      (told 0 (pos (next .0) ∷ pos (budget .0) ∷ pos (kindCode kind) ∷ pos arg ∷ holds)) scratch
+      Row way s place budget scratch (H.Read next kind arg) (ending kind (next .0) (budget .0) holds) scratch
   headed kind holds k l c i h within =
       let there : next .0 + bodyLength kind arg ≤ length s = omega arith in
       let room = no-room way kind arg i in
@@ -121,9 +125,9 @@ module _ (way : Way) (s : List ℕ) (budget : Budget) (scratch : List ℕ) (next
   charges : (kind : Kind) (body : Budget → AtomAnswer) (after : BudgetAnswer → List ℕ) (t : Bool) →
       ltb (budget .0) (chargeOf kind arg) ≡ t → after (BA.Refused R.TooManyBytesRead) ≡ scratch →
       (chargeOf kind arg ≤ budget .0 →
-      Row way s budget scratch (H.Read next kind arg) (toldAtom (body (less budget (chargeOf kind arg))))
+      Row way s place budget scratch (H.Read next kind arg) (toldAtom (body (less budget (chargeOf kind arg))))
       (after (BA.Left (less budget (chargeOf kind arg))))) →
-      Row way s budget scratch (H.Read next kind arg)
+      Row way s place budget scratch (H.Read next kind arg)
       (toldAtom
       (charged next budget (pick t (BA.Refused R.TooManyBytesRead) (BA.Left (less budget (chargeOf kind arg)))) body))
       (after (pick t (BA.Refused R.TooManyBytesRead) (BA.Left (less budget (chargeOf kind arg)))))
@@ -137,10 +141,8 @@ module _ (way : Way) (s : List ℕ) (budget : Budget) (scratch : List ℕ) (next
   -- a number of an allowed count, whose bytes are there
   number-whole : (kind : Kind) (holds : List ℤ) → Number kind → known kind arg ≡ true →
       chargeOf kind arg ≤ budget .0 → held way s (next .0) kind arg ≡ holds → next .0 + countOf arg ≤ length s →
-      Row way s budget scratch (H.Read next kind arg)
-      (told 0
-      (pos (next .0 + countOf arg) ∷ pos (budget .0 - chargeOf kind arg) ∷ pos (kindCode kind) ∷ pos arg ∷ holds))
-      scratch
+      Row way s place budget scratch (H.Read next kind arg)
+      (ending kind (next .0 + countOf arg) (budget .0 - chargeOf kind arg) holds) scratch
   number-whole kind holds w k b h there =
       let n = its-count kind w arg in
       let there′ : next .0 + bodyLength kind arg ≤ length s = omega arith in
@@ -154,8 +156,8 @@ module _ (way : Way) (s : List ℕ) (budget : Budget) (scratch : List ℕ) (next
   number-filled : (kind : Kind) (holds : List ℤ) → Number kind → known kind arg ≡ true →
       chargeOf kind arg ≤ budget .0 → held way s (next .0) kind arg ≡ holds → length s < next .0 + countOf arg →
       exact way ≡ false →
-      Row way s budget scratch (H.Read next kind arg)
-      (told 0 (pos (length s) ∷ pos (budget .0 - chargeOf kind arg) ∷ pos (kindCode kind) ∷ pos arg ∷ holds)) scratch
+      Row way s place budget scratch (H.Read next kind arg)
+      (ending kind (length s) (budget .0 - chargeOf kind arg) holds) scratch
   number-filled kind holds w k b h out x =
       let n = its-count kind w arg in
       let out′ : length s < next .0 + bodyLength kind arg = omega arith in
@@ -168,7 +170,7 @@ module _ (way : Way) (s : List ℕ) (budget : Budget) (scratch : List ℕ) (next
   -- or that is cut
   number-cut : (kind : Kind) → Number kind → known kind arg ≡ true → chargeOf kind arg ≤ budget .0 →
       length s < next .0 + countOf arg → exact way ≡ true →
-      Row way s budget scratch (H.Read next kind arg) (refusal 4 (endOf s) (less budget (chargeOf kind arg)) [])
+      Row way s place budget scratch (H.Read next kind arg) (refusal 4 (endOf s) (less budget (chargeOf kind arg)) [])
       scratch
   number-cut kind w k b out x =
       let n = its-count kind w arg in
@@ -190,10 +192,11 @@ module _ (way : Way) (s : List ℕ) (budget : Budget) (scratch : List ℕ) (next
       held way s (next .0) kind arg
       ≡ pos 2 ∷ integerTold (integerOf kind (countOf arg) (numberAt (countOf arg) s (next .0)))) →
       (a t x : Bool) → known kind arg ≡ a → leb (next .0 + countOf arg) (length s) ≡ t → exact way ≡ x →
-      Row way s budget scratch (H.Read next kind arg)
+      Row way s place budget scratch (H.Read next kind arg)
       (toldAtom
       (pick a
-      (integerAtom kind arg (less budget (chargeOf kind arg)) (integerBody way s (next .0) kind (countOf arg)))
+      (integerAtom kind arg (firstPlace s place) next (less budget (chargeOf kind arg))
+      (integerBody way s (next .0) kind (countOf arg)))
       (A.Refused next (less budget (chargeOf kind arg)) (unsupported kind (countOf arg))))) scratch
   unfolding integerBody
   integers kind w b h false t x e f g = six w b e
@@ -207,8 +210,9 @@ module _ (way : Way) (s : List ℕ) (budget : Budget) (scratch : List ℕ) (next
   -- a float likewise
   floats : chargeOf K.Float arg ≤ budget .0 → (a t x : Bool) → known K.Float arg ≡ a →
       leb (next .0 + countOf arg) (length s) ≡ t → exact way ≡ x →
-      Row way s budget scratch (H.Read next K.Float arg)
-      (toldAtom (formed K.Float (floatTaken way s arg next) (less budget (chargeOf K.Float arg)))) scratch
+      Row way s place budget scratch (H.Read next K.Float arg)
+      (toldAtom (formed K.Float (floatTaken way s arg (firstPlace s place) next) (less budget (chargeOf K.Float arg))))
+      scratch
   unfolding floatBody
   floats b false t x e f g = rw e (six float b e)
   floats b true true x e f g =
@@ -221,8 +225,9 @@ module _ (way : Way) (s : List ℕ) (budget : Budget) (scratch : List ℕ) (next
 
   -- a string, by its three outcomes
   strings : arg ≤ budget .0 → next .0 ≤ length s → Outcome way s (next .0) arg scratch →
-      Row way s budget scratch (H.Read next K.Bytes arg)
-      (toldAtom (bytesAtom arg (less budget arg) (stringAnswer way s (next .0) arg scratch)))
+      Row way s place budget scratch (H.Read next K.Bytes arg)
+      (toldAtom
+      (bytesAtom arg (firstPlace s place) next (less budget arg) (stringAnswer way s (next .0) arg scratch)))
       (stringScratch way s (next .0) arg scratch)
   strings b h (whole w r) =
       let at = start-same s (next .0) h in
@@ -244,77 +249,79 @@ module _ (way : Way) (s : List ℕ) (budget : Budget) (scratch : List ℕ) (next
       rw (e .0, e .1, start-same s (next .0) h) (nine b there r)
 
 -- a special, by its argument
-specials : (way : Way) (s : List ℕ) (budget : Budget) (scratch : List ℕ) (next : Place) (n : ℕ) →
+specials : (way : Way) (s : List ℕ) (place : ℕ) (budget : Budget) (scratch : List ℕ) (next : Place) (n : ℕ) →
     next .0 ≤ length s → (t : Bool) → ltb n 7 ≡ t →
-    Row way s budget scratch (H.Read next K.Special n)
-    (toldAtom (formed way s budget scratch next n K.Special (specialTaken n next) budget)) scratch
-specials way s budget scratch next n h true e =
-    rw e (headed way s budget scratch next n K.Special _ e refl refl refl (special-told n (ltb-true n 7 e)) h)
-specials way s budget scratch next n h false e = rw e (three (ltb-false n 7 e))
+    Row way s place budget scratch (H.Read next K.Special n)
+    (toldAtom (formed way s place budget scratch next n K.Special (specialTaken n (firstPlace s place) next) budget))
+    scratch
+specials way s place budget scratch next n h true e =
+    rw e (headed way s place budget scratch next n K.Special _ e refl refl refl (special-told n (ltb-true n 7 e)) h)
+specials way s place budget scratch next n h false e = rw e (three (ltb-false n 7 e))
 
 -- what follows a header
-after-header : (way : Way) (s : List ℕ) (budget : Budget) (scratch : List ℕ) (next : Place) (arg : ℕ) (kind : Kind) →
-    next .0 ≤ length s →
-    Row way s budget scratch (H.Read next kind arg) (toldAtom (atomAfter way s kind arg next budget scratch))
+after-header : (way : Way) (s : List ℕ) (place : ℕ) (budget : Budget) (scratch : List ℕ) (next : Place) (arg : ℕ)
+    (kind : Kind) → next .0 ≤ length s →
+    Row way s place budget scratch (H.Read next kind arg)
+    (toldAtom (atomAfter way s kind arg (firstPlace s place) next budget scratch))
     (scratchAfter way s kind arg next budget scratch)
 unfolding judged
-after-header way s budget scratch next arg K.Special h =
-    rw (free budget) (specials way s budget scratch next arg h (ltb arg 7) refl)
-after-header way s budget scratch next arg K.Int h =
-    charges way s budget scratch next arg K.Int
-    (formed way s budget scratch next arg K.Int (integerTaken way s K.Int arg next)) (λ rest. scratch)
-    (ltb (budget .0) (numberCharge (countOf arg))) refl refl
-    (λ b. integers way s budget scratch next arg K.Int int b
+after-header way s place budget scratch next arg K.Special h =
+    rw (free budget) (specials way s place budget scratch next arg h (ltb arg 7) refl)
+after-header way s place budget scratch next arg K.Int h =
+    charges way s place budget scratch next arg K.Int
+    (formed way s place budget scratch next arg K.Int (integerTaken way s K.Int arg (firstPlace s place) next))
+    (λ rest. scratch) (ltb (budget .0) (numberCharge (countOf arg))) refl refl
+    (λ b. integers way s place budget scratch next arg K.Int int b
     (λ e. ap (λ (l : List ℤ). pos 2 ∷ l)
     (sym (integer-told (countOf arg) e (numberAt (countOf arg) s (next .0)) K.Int)))
     (allowedCount (countOf arg)) (leb (next .0 + countOf arg) (length s)) (exact way) refl refl refl)
-after-header way s budget scratch next arg K.UInt h =
-    charges way s budget scratch next arg K.UInt
-    (formed way s budget scratch next arg K.UInt (integerTaken way s K.UInt arg next)) (λ rest. scratch)
-    (ltb (budget .0) (numberCharge (countOf arg))) refl refl
-    (λ b. integers way s budget scratch next arg K.UInt uint b
+after-header way s place budget scratch next arg K.UInt h =
+    charges way s place budget scratch next arg K.UInt
+    (formed way s place budget scratch next arg K.UInt (integerTaken way s K.UInt arg (firstPlace s place) next))
+    (λ rest. scratch) (ltb (budget .0) (numberCharge (countOf arg))) refl refl
+    (λ b. integers way s place budget scratch next arg K.UInt uint b
     (λ e. ap (λ (l : List ℤ). pos 2 ∷ l)
     (sym (integer-told (countOf arg) e (numberAt (countOf arg) s (next .0)) K.UInt)))
     (allowedCount (countOf arg)) (leb (next .0 + countOf arg) (length s)) (exact way) refl refl refl)
-after-header way s budget scratch next arg K.Float h =
-    charges way s budget scratch next arg K.Float
-    (formed way s budget scratch next arg K.Float (floatTaken way s arg next)) (λ rest. scratch)
-    (ltb (budget .0) (numberCharge (countOf arg))) refl refl
-    (λ b. floats way s budget scratch next arg b (allowedFloat (countOf arg))
+after-header way s place budget scratch next arg K.Float h =
+    charges way s place budget scratch next arg K.Float
+    (formed way s place budget scratch next arg K.Float (floatTaken way s arg (firstPlace s place) next))
+    (λ rest. scratch) (ltb (budget .0) (numberCharge (countOf arg))) refl refl
+    (λ b. floats way s place budget scratch next arg b (allowedFloat (countOf arg))
     (leb (next .0 + countOf arg) (length s)) (exact way) refl refl refl)
-after-header way s budget scratch next arg K.Sequence h =
-    rw (free budget) (headed way s budget scratch next arg K.Sequence _ refl refl refl refl refl h)
-after-header way s budget scratch next arg K.Map h =
-    rw (free budget) (headed way s budget scratch next arg K.Map _ refl refl refl refl refl h)
-after-header way s budget scratch next arg K.Symbol h =
-    rw (free budget) (headed way s budget scratch next arg K.Symbol _ refl refl refl refl refl h)
-after-header way s budget scratch next arg K.Bytes h =
-    charges way s budget scratch next arg K.Bytes (bytesTaken way s arg next scratch)
+after-header way s place budget scratch next arg K.Sequence h =
+    rw (free budget) (headed way s place budget scratch next arg K.Sequence _ refl refl refl refl refl h)
+after-header way s place budget scratch next arg K.Map h =
+    rw (free budget) (headed way s place budget scratch next arg K.Map _ refl refl refl refl refl h)
+after-header way s place budget scratch next arg K.Symbol h =
+    rw (free budget) (headed way s place budget scratch next arg K.Symbol _ refl refl refl refl refl h)
+after-header way s place budget scratch next arg K.Bytes h =
+    charges way s place budget scratch next arg K.Bytes (bytesTaken way s arg (firstPlace s place) next scratch)
     (λ rest. scratchCharged way s (next .0) arg scratch rest) (ltb (budget .0) arg) refl refl
-    (λ b. strings way s budget scratch next arg b h (outcome way s (next .0) arg scratch))
+    (λ b. strings way s place budget scratch next arg b h (outcome way s (next .0) arg scratch))
 
 -- a header, by the tests that it passes: it ends within the source, the way is exact
-from-header : (way : Way) (s : List ℕ) (budget : Budget) (scratch : List ℕ) (at end : ℕ) (kind : Kind) (arg : ℕ)
-    (t x : Bool) → leb end (length s) ≡ t → exact way ≡ x → (header : HeaderAnswer) →
+from-header : (way : Way) (s : List ℕ) (place : ℕ) (budget : Budget) (scratch : List ℕ) (at end : ℕ) (kind : Kind)
+    (arg : ℕ) (t x : Bool) → leb end (length s) ≡ t → exact way ≡ x → (header : HeaderAnswer) →
     header
     ≡ pick t (H.Read (record { 0 = end }) kind arg)
     (pick x (H.Refused (endOf s) R.Eof) (H.Read (endOf s) kind arg)) →
-    Row way s budget scratch header (toldAtom (atomFrom way s budget scratch header))
+    Row way s place budget scratch header (toldAtom (atomFrom way s (firstPlace s place) budget scratch header))
     (scratchFrom way s budget scratch header)
-from-header way s budget scratch at end kind arg true x e f header h =
-    rw h (after-header way s budget scratch (record { 0 = end }) arg kind (leb-true end (length s) e))
-from-header way s budget scratch at end kind arg false true e f header h = rw h (four-in-header f)
-from-header way s budget scratch at end kind arg false false e f header h =
-    rw h (after-header way s budget scratch (endOf s) arg kind (le-refl (length s)))
+from-header way s place budget scratch at end kind arg true x e f header h =
+    rw h (after-header way s place budget scratch (record { 0 = end }) arg kind (leb-true end (length s) e))
+from-header way s place budget scratch at end kind arg false true e f header h = rw h (four-in-header f)
+from-header way s place budget scratch at end kind arg false false e f header h =
+    rw h (after-header way s place budget scratch (endOf s) arg kind (le-refl (length s)))
 
 -- THE TABLE: an atom is read, or refused by a row of the table
 pub by-the-table : (way : Way) (s : List ℕ) (place : ℕ) (budget : Budget) (scratch : List ℕ) →
-    Row way s budget scratch (headerRead way s place) (toldAtom (atomRead way s place budget scratch))
+    Row way s place budget scratch (headerRead way s place) (toldAtom (atomRead way s place budget scratch))
     (atomScratch way s place budget scratch)
 unfolding atomRead atomScratch headerFrom
 by-the-table way s place budget scratch =
     let at : ℕ = placeIn (length s) place in
-    from-header way s budget scratch at (at + headerLength (drop at s)) (headerKind (drop at s))
+    from-header way s place budget scratch at (at + headerLength (drop at s)) (headerKind (drop at s))
     (headerArgument (drop at s)) (leb (at + headerLength (drop at s)) (length s)) (exact way) refl refl
     (headerRead way s place) refl
 
@@ -324,20 +331,20 @@ notKnown budget next kind arg =
     pick (eqb (kindCode kind) 0) (refusal 3 next budget (arg ∷ []))
     (refusal 6 next (less budget (chargeOf kind arg)) (kindCode kind ∷ countOf arg ∷ []))
 
-abbrev verdict : Way → List ℕ → Budget → List ℕ → HeaderAnswer → Told
-verdict way s budget scratch (H.Refused place r) = refusal 4 (endOf s) budget []
-verdict way s budget scratch (H.Read next kind arg) =
+abbrev verdict : Way → List ℕ → ℕ → Budget → List ℕ → HeaderAnswer → Told
+verdict way s place budget scratch (H.Refused end r) = refusal 4 (endOf s) budget []
+verdict way s place budget scratch (H.Read next kind arg) =
     pick (ltb (budget .0) (chargeOf kind arg)) (refusal 5 next budget [])
     (pick (known kind arg)
     (pick (ltb (length s) (next .0 + bodyLength kind arg))
     (pick (canEnd way kind) (refusal 4 (endOf s) (less budget (chargeOf kind arg)) [])
-    (taking way s next budget kind arg))
+    (taking way s place next budget kind arg))
     (pick (ltb (length scratch) (roomOf way kind arg)) (refusal 9 next (less budget (chargeOf kind arg)) [])
-    (taking way s next budget kind arg)))
+    (taking way s place next budget kind arg)))
     (notKnown budget next kind arg))
 
 abbrev afterwards : Way → List ℕ → List ℕ → HeaderAnswer → List ℕ
-afterwards way s scratch (H.Refused place r) = scratch
+afterwards way s scratch (H.Refused end r) = scratch
 afterwards way s scratch (H.Read next kind arg) = copied s (next .0) (roomOf way kind arg) scratch
 
 no-special : (kind : Kind) → Number kind → eqb (kindCode kind) 0 ≡ false
@@ -345,17 +352,18 @@ no-special K.Int int = refl
 no-special K.UInt uint = refl
 no-special K.Float float = refl
 
-read-verdict : (way : Way) (s : List ℕ) (budget : Budget) (scratch : List ℕ) (next : Place) (kind : Kind) (arg : ℕ)
-    (t : Bool) → ltb (length s) (next .0 + bodyLength kind arg) ≡ t → Good way s budget scratch next kind arg →
-    taking way s next budget kind arg ≡ verdict way s budget scratch (H.Read next kind arg)
-read-verdict way s budget scratch next kind arg false e g =
+read-verdict : (way : Way) (s : List ℕ) (place : ℕ) (budget : Budget) (scratch : List ℕ) (next : Place) (kind : Kind)
+    (arg : ℕ) (t : Bool) → ltb (length s) (next .0 + bodyLength kind arg) ≡ t →
+    Good way s budget scratch next kind arg →
+    taking way s place next budget kind arg ≡ verdict way s place budget scratch (H.Read next kind arg)
+read-verdict way s place budget scratch next kind arg false e g =
     rw (
       le-ltb (budget .0) (chargeOf kind arg) (g .afforded),
       g .form-known,
       e,
       le-ltb (length scratch) (roomOf way kind arg) (g .room-there),
     ) refl
-read-verdict way s budget scratch next kind arg true e g =
+read-verdict way s place budget scratch next kind arg true e g =
     rw (le-ltb (budget .0) (chargeOf kind arg) (g .afforded), g .form-known, e, filled (g .body-there)) refl
   where
     filled : (next .0 + bodyLength kind arg ≤ length s) ⊎ (canEnd way kind ≡ false) → canEnd way kind ≡ false
@@ -367,9 +375,9 @@ read-verdict way s budget scratch next kind arg true e g =
         past n m h k = omega arith
     filled (inr isnt) = isnt
 
-row-verdict : {way : Way} {s : List ℕ} {budget : Budget} {scratch : List ℕ} {header : HeaderAnswer} {answer : Told}
-    {after : List ℕ} → Row way s budget scratch header answer after →
-    answer ≡ verdict way s budget scratch header
+row-verdict : {way : Way} {s : List ℕ} {place : ℕ} {budget : Budget} {scratch : List ℕ} {header : HeaderAnswer}
+    {answer : Told} {after : List ℕ} → Row way s place budget scratch header answer after →
+    answer ≡ verdict way s place budget scratch header
 row-verdict (four-in-header x) = refl
 row-verdict {budget = budget} (three {next} {arg} h) = rw (le-ltb (budget .0) 0 (omega arith), le-ltb arg 7 h) refl
 row-verdict {budget = budget} (five {next} {kind} {arg} h) = rw (lt-ltb (budget .0) (chargeOf kind arg) h) refl
@@ -383,11 +391,11 @@ row-verdict {way = way} {s = s} {budget = budget} {scratch = scratch} (nine {nex
       le-ltb (length s) (next .0 + arg) there,
       lt-ltb (length scratch) (scratchNeeded way arg) r,
     ) refl
-row-verdict {way = way} {s = s} {budget = budget} {scratch = scratch} (read {next} {kind} {arg} g) =
-    read-verdict way s budget scratch next kind arg (ltb (length s) (next .0 + bodyLength kind arg)) refl g
+row-verdict {way = way} {s = s} {place = place} {budget = budget} {scratch = scratch} (read {next} {kind} {arg} g) =
+    read-verdict way s place budget scratch next kind arg (ltb (length s) (next .0 + bodyLength kind arg)) refl g
 
-row-scratch : {way : Way} {s : List ℕ} {budget : Budget} {scratch : List ℕ} {header : HeaderAnswer} {answer : Told}
-    {after : List ℕ} → Row way s budget scratch header answer after →
+row-scratch : {way : Way} {s : List ℕ} {place : ℕ} {budget : Budget} {scratch : List ℕ} {header : HeaderAnswer}
+    {answer : Told} {after : List ℕ} → Row way s place budget scratch header answer after →
     after ≡ pick (eqb (answer .number) 0) (afterwards way s scratch header) scratch
 row-scratch (four-in-header x) = refl
 row-scratch (three h) = refl
@@ -397,9 +405,10 @@ row-scratch (four-in-body b k c out) = refl
 row-scratch (nine b there r) = refl
 row-scratch (read g) = refl
 
-pub one-row : {way : Way} {s : List ℕ} {budget : Budget} {scratch : List ℕ} {header : HeaderAnswer} {a b : Told}
-    {t u : List ℕ} → Row way s budget scratch header a t → Row way s budget scratch header b u → (a ≡ b) × (t ≡ u)
-one-row {way} {s} {budget} {scratch} {header} {a} {b} p q =
+pub one-row : {way : Way} {s : List ℕ} {place : ℕ} {budget : Budget} {scratch : List ℕ} {header : HeaderAnswer}
+    {a b : Told} {t u : List ℕ} → Row way s place budget scratch header a t →
+    Row way s place budget scratch header b u → (a ≡ b) × (t ≡ u)
+one-row {way} {s} {place} {budget} {scratch} {header} {a} {b} p q =
     let e : a ≡ b = row-verdict p ∙ sym (row-verdict q) in (
       e,
       row-scratch p
@@ -408,8 +417,8 @@ one-row {way} {s} {budget} {scratch} {header} {a} {b} p q =
     )
 
 -- A ROW THAT TELLS 0 IS OF A GOOD ATOM
-pub good-row : {way : Way} {s : List ℕ} {budget : Budget} {scratch : List ℕ} {header : HeaderAnswer} {answer : Told}
-    {after : List ℕ} → Row way s budget scratch header answer after → answer .number ≡ 0 →
+pub good-row : {way : Way} {s : List ℕ} {place : ℕ} {budget : Budget} {scratch : List ℕ} {header : HeaderAnswer}
+    {answer : Told} {after : List ℕ} → Row way s place budget scratch header answer after → answer .number ≡ 0 →
     (next : Place) × (kind : Kind) × (arg : ℕ) × (header ≡ H.Read next kind arg)
     × Good way s budget scratch next kind arg
 good-row (four-in-header x) e = absurd (omega arith)
@@ -421,9 +430,9 @@ good-row (nine b there r) e = absurd (omega arith)
 good-row (read {next} {kind} {arg} g) e = (next, kind, arg, refl, g)
 
 -- A GOOD ATOM IS READ
-pub good-read : {way : Way} {s : List ℕ} {budget : Budget} {scratch : List ℕ} {header : HeaderAnswer}
+pub good-read : {way : Way} {s : List ℕ} {place : ℕ} {budget : Budget} {scratch : List ℕ} {header : HeaderAnswer}
     {answer : Told} {after : List ℕ} {next : Place} {kind : Kind} {arg : ℕ} → header ≡ H.Read next kind arg →
-    Row way s budget scratch header answer after → Good way s budget scratch next kind arg →
-    (answer ≡ taking way s next budget kind arg) × (after ≡ copied s (next .0) (roomOf way kind arg) scratch)
-good-read {way} {s} {budget} {scratch} {header} {answer} {after} {next} {kind} {arg} e r g =
-    one-row (subst (λ (x : HeaderAnswer). Row way s budget scratch x answer after) e r) (read g)
+    Row way s place budget scratch header answer after → Good way s budget scratch next kind arg →
+    (answer ≡ taking way s place next budget kind arg) × (after ≡ copied s (next .0) (roomOf way kind arg) scratch)
+good-read {way} {s} {place} {budget} {scratch} {header} {answer} {after} {next} {kind} {arg} e r g =
+    one-row (subst (λ (x : HeaderAnswer). Row way s place budget scratch x answer after) e r) (read g)

@@ -1,7 +1,7 @@
 -- DEMAND 2, its last part: what was written reads back as the value written. For every value writer, for every value,
 -- the written bytes, with anything before and after them, read as that value at the place just past them, under every
--- way, lent or copied, from any budget of at least the price, leaving the budget less the price. Strings and specials
--- rest on `atom.Back.bytes-back` and `atom.Back.special-back`.
+-- way, lent or copied, from any budget of at least the price, leaving the budget less the price; and the atom's places
+-- are where the bytes stand. Strings and specials rest on `atom.Back.bytes-back` and `atom.Back.special-back`.
 use mathlib.Core.Path.{_≡_, refl, _∙_, sym, ap}
 use mathlib.Core.Bool.{true, false, false≢true}
 use mathlib.Core.List.{List, [], _++_, append-assoc, append-nil}
@@ -17,11 +17,12 @@ use Rattle.types.specs.declared.Kind.{Kind}
 use Rattle.types.specs.declared.Kind.the-variants as K
 use Rattle.types.specs.declared.Place.{Place}
 use Rattle.types.specs.declared.Budget.{Budget}
+use Rattle.types.specs.declared.Nucleus.{Nucleus}
 use Rattle.types.specs.declared.Nucleus.the-variants as N
 use Rattle.types.specs.declared.AtomAnswer.the-variants as A
 use Rattle.types.proofs.Counters.{place-same}
 use Rattle.types.proofs.Specials.{special-small}
-use Rattle.header.specs.Header.{headerBytes, headerFrom, headerArgument}
+use Rattle.header.specs.Header.{headerBytes, headerFrom, headerArgument, headerLength}
 use Rattle.header.proofs.RoundTrip.{header-back, back}
 use Rattle.reader.specs.Strings.{stringMark, stringScratch, scratchNeeded}
 use Rattle.reader.specs.Parts.{markedBytes}
@@ -46,11 +47,11 @@ use Rattle.float.proofs.Counts.{Allowed, two, four, eight, allowed-is}
 use Rattle.float.proofs.Stored.{Stored, stored-single, stored-double, meaning-kept}
 use Rattle.float.proofs.RoundTrip as floats
 use Rattle.atom.specs.Atoms.{specialNucleus, atomRead, atomScratch, scratchFrom, scratchCharged, atomFrom, atomAfter}
-use Rattle.atom.specs.Atoms.{atomOf, judged, integerTaken, headerTaken, integerAtom, floatAtom}
+use Rattle.atom.specs.Atoms.{atomOf, atomTaken, judged, integerTaken, headerTaken, integerAtom, floatAtom}
 use Rattle.atom.specs.Charges.{budgetAfter}
 use Rattle.atom.proofs.Back.{atom-back, paid, bytes-back, special-back}
 use Rattle.atom.proofs.Answers.{free, judged-left, integer-left, float-left}
-use Rattle.dictionary.specs.Wholes.{price}
+use Rattle.dictionary.specs.Wholes.{price, placesAt}
 use Rattle.types.specs.Kinds.{specialCode}
 use Rattle.types.specs.declared.Atom.{Atom}
 use Rattle.types.specs.declared.Special.{Special}
@@ -73,18 +74,40 @@ use Rattle.promises.specs.Values.{header-carried, ReadBack}
 counted : (n : ℕ) → 0 < n → n ≤ 16 → n ≡ countOf (n - 1)
 counted n p q = omega arith
 
+-- an atom that stands where its bytes do, behind those before
+abbrev atomBehind : List ℕ → List ℕ → Kind → ℕ → Nucleus → Atom
+atomBehind before bytes kind arg nucleus = atomOf kind arg (placesAt (length before) bytes) nucleus
+
+-- it is the one that is taken from there, past a header of that length
+behind : (before bytes : List ℕ) (kind : Kind) (arg : ℕ) (rest : Budget) (nucleus : Nucleus) (long : ℕ) →
+    headerLength bytes ≡ long →
+    atomTaken kind arg (record { 0 = length before }) (record { 0 = length before + long }) rest
+    (record { 0 = length before + length bytes }) nucleus
+    ≡ A.Read (record { 0 = length before + length bytes }) rest (atomBehind before bytes kind arg nucleus)
+behind before bytes kind arg rest nucleus long e =
+    ap (λ (n : ℕ). atomTaken kind arg (record { 0 = length before }) (record { 0 = length before + n }) rest
+    (record { 0 = length before + length bytes }) nucleus) (sym e)
+
+-- a header is as long as was written of it
+header-long : (kind : Kind) (arg : ℕ) (after : List ℕ) →
+    arg < 2 ^ 64 →
+    headerLength (headerBytes kind arg ++ after) ≡ length (headerBytes kind arg)
+header-long kind arg after h = back kind arg after h .its-length
+
 -- what follows an integer's header
-after-integer : (way : Way) (s : List ℕ) (kind : Kind) (arg : ℕ) (next : Place) (budget : Budget) (scratch : List ℕ) →
+after-integer : (way : Way) (s : List ℕ) (kind : Kind) (arg : ℕ) (first next : Place) (budget : Budget)
+    (scratch : List ℕ) →
     integerKind kind ≡ true →
-    atomAfter way s kind arg next budget scratch ≡ judged kind arg next budget (integerTaken way s kind arg next)
-after-integer way s K.Special arg next budget scratch e = absurd (false≢true e)
-after-integer way s K.Int arg next budget scratch e = refl
-after-integer way s K.UInt arg next budget scratch e = refl
-after-integer way s K.Float arg next budget scratch e = absurd (false≢true e)
-after-integer way s K.Sequence arg next budget scratch e = absurd (false≢true e)
-after-integer way s K.Map arg next budget scratch e = absurd (false≢true e)
-after-integer way s K.Symbol arg next budget scratch e = absurd (false≢true e)
-after-integer way s K.Bytes arg next budget scratch e = absurd (false≢true e)
+    atomAfter way s kind arg first next budget scratch
+    ≡ judged kind arg next budget (integerTaken way s kind arg first next)
+after-integer way s K.Special arg first next budget scratch e = absurd (false≢true e)
+after-integer way s K.Int arg first next budget scratch e = refl
+after-integer way s K.UInt arg first next budget scratch e = refl
+after-integer way s K.Float arg first next budget scratch e = absurd (false≢true e)
+after-integer way s K.Sequence arg first next budget scratch e = absurd (false≢true e)
+after-integer way s K.Map arg first next budget scratch e = absurd (false≢true e)
+after-integer way s K.Symbol arg first next budget scratch e = absurd (false≢true e)
+after-integer way s K.Bytes arg first next budget scratch e = absurd (false≢true e)
 
 -- a number of an allowed count, whatever wrote it
 pub integer-back : (way : Way) (kind : Kind) (n bits : ℕ) (before after : List ℕ) (budget : Budget) (scratch : List ℕ) →
@@ -94,7 +117,8 @@ pub integer-back : (way : Way) (kind : Kind) (n bits : ℕ) (before after : List
     numberCharge n ≤ budget .0 →
     atomRead way (before ++ (integerBytes kind n bits ++ after)) (length before) budget scratch
     ≡ A.Read (record { 0 = length before + length (integerBytes kind n bits) })
-    (record { 0 = budget .0 - numberCharge n }) (atomOf kind (n - 1) (N.Integer (integerOf kind n bits)))
+    (record { 0 = budget .0 - numberCharge n })
+    (atomBehind before (integerBytes kind n bits) kind (n - 1) (N.Integer (integerOf kind n bits)))
 unfolding integerBytes
 integer-back way kind n bits before after budget scratch k a l b =
     let range = allowed-bounds n a in
@@ -102,7 +126,9 @@ integer-back way kind n bits before after budget scratch k a l b =
     let le : List ℕ = toLE n bits in
     let s : List ℕ = before ++ (hd ++ (le ++ after)) in
     let arg : n - 1 < 2 ^ 64 = omega (arith, range .1) in
+    let first : Place = record { 0 = length before } in
     let next : Place = record { 0 = length before + length hd } in
+    let holds : Nucleus = N.Integer (integerOf kind n bits) in
     let left : Budget = record { 0 = budget .0 - numberCharge n } in
     let split : s ≡ (before ++ hd) ++ (le ++ after) = sym (append-assoc before hd (le ++ after)) in
     let place : length (before ++ hd) ≡ length before + length hd = length-append before hd in
@@ -111,13 +137,14 @@ integer-back way kind n bits before after budget scratch k a l b =
     let end : length before + length hd + n ≡ length before + length (hd ++ le) = omega arith in
     ap (λ (l : List ℕ). atomRead way (before ++ l) (length before) budget scratch) (append-assoc hd le after)
     ∙ atom-back way kind (n - 1) before (le ++ after) budget scratch arg
-    ∙ after-integer way s kind (n - 1) next budget scratch k
-    ∙ sym (integer-left way s (n - 1) next budget left n (counted n (range .0) (range .1))
+    ∙ after-integer way s kind (n - 1) first next budget scratch k
+    ∙ sym (integer-left way s (n - 1) first next budget left n (counted n (range .0) (range .1))
     (paid budget (numberCharge n) b) kind k a)
-    ∙ ap (integerAtom kind (n - 1) left) (ap (λ (p : ℕ). integerBody way s p kind n) (sym place)
+    ∙ ap (integerAtom kind (n - 1) first next left) (ap (λ (p : ℕ). integerBody way s p kind n) (sym place)
     ∙ body-back way kind n bits (before ++ hd) after s split l
     ∙ ap (λ (p : ℕ). IA.Read (record { 0 = p + n }) (integerOf kind n bits)) place)
-    ∙ ap (λ (p : ℕ). A.Read (record { 0 = p }) left (atomOf kind (n - 1) (N.Integer (integerOf kind n bits)))) end
+    ∙ ap (λ (p : ℕ). atomTaken kind (n - 1) first next left (record { 0 = p }) holds) end
+    ∙ behind before (hd ++ le) kind (n - 1) left holds (length hd) (header-long kind (n - 1) le arg)
 
 -- A SIGNED VALUE reads back: as the variant of its count, which carries the value
 pub signed-back : (way : Way) (z : ℤ) (before after : List ℕ) (budget : Budget) (scratch : List ℕ) →
@@ -126,7 +153,8 @@ pub signed-back : (way : Way) (z : ℤ) (before after : List ℕ) (budget : Budg
     (atomRead way (before ++ (signedBytes z ++ after)) (length before) budget scratch
     ≡ A.Read (record { 0 = length before + length (signedBytes z) })
     (record { 0 = budget .0 - numberCharge (shortestS z) })
-    (atomOf K.Int (shortestS z - 1) (N.Integer (intOf (shortestS z) (twosBits (shortestS z) z)))))
+    (atomBehind before (signedBytes z) K.Int (shortestS z - 1)
+    (N.Integer (intOf (shortestS z) (twosBits (shortestS z) z)))))
     × (value (intOf (shortestS z) (twosBits (shortestS z) z)) ≡ z)
 unfolding signedBytes
 signed-back way z before after budget scratch h b =
@@ -148,7 +176,8 @@ pub unsigned-back : (way : Way) (k : ℕ) (before after : List ℕ) (budget : Bu
     (atomRead way (before ++ (unsignedBytes k ++ after)) (length before) budget scratch
     ≡ A.Read (record { 0 = length before + length (unsignedBytes k) })
     (record { 0 = budget .0 - numberCharge (shortestU k) })
-    (atomOf K.UInt (shortestU k - 1) (N.Integer (uintOf (shortestU k) k)))) × (value (uintOf (shortestU k) k) ≡ pos k)
+    (atomBehind before (unsignedBytes k) K.UInt (shortestU k - 1) (N.Integer (uintOf (shortestU k) k))))
+    × (value (uintOf (shortestU k) k) ≡ pos k)
 unfolding unsignedBytes
 unsigned-back way k before after budget scratch h b =
     let n : ℕ = shortestU k in
@@ -162,6 +191,20 @@ float-bounds n (two e) = rw e (omega arith, omega arith)
 float-bounds n (four e) = rw e (omega arith, omega arith)
 float-bounds n (eight e) = rw e (omega arith, omega arith)
 
+-- the header of what any float writer stored is one byte
+float-header : (own bits : ℕ) (bytes : List ℕ) (S : Stored own bits bytes) → headerLength bytes ≡ 1
+unfolding floatBytes
+float-header own bits bytes S =
+    let n : ℕ = S .count in
+    let a = allowed-is n (S .its-count) in
+    let range = float-bounds n a in
+    let hd : List ℕ = headerBytes K.Float (n - 1) in
+    let le : List ℕ = toLE n (S .stored) in
+    let arg : n - 1 < 2 ^ 64 = omega (arith, range .1) in
+    let one : length hd ≡ 1 =
+    omega (arith, floats.bytes-length n (S .stored) a, length-append hd le, to-length n (S .stored)) in
+    ap headerLength (S .its-bytes) ∙ header-long K.Float (n - 1) le arg ∙ one
+
 -- what any float writer stored reads back with the stored bits beside the value; `Stored` says that the value is the
 -- one written, with its sign and magnitude, and that a NaN keeps its width and bits
 pub float-back : (way : Way) (own bits : ℕ) (bytes before after : List ℕ) (S : Stored own bits bytes) (budget : Budget)
@@ -169,7 +212,7 @@ pub float-back : (way : Way) (own bits : ℕ) (bytes before after : List ℕ) (S
     numberCharge (S .count) ≤ budget .0 →
     atomRead way (before ++ (bytes ++ after)) (length before) budget scratch
     ≡ A.Read (record { 0 = length before + length bytes }) (record { 0 = budget .0 - numberCharge (S .count) })
-    (atomOf K.Float (S .count - 1) (N.Float (floatOf (S .count) (S .stored)) (S .stored)))
+    (atomBehind before bytes K.Float (S .count - 1) (N.Float (floatOf (S .count) (S .stored)) (S .stored)))
 unfolding atomRead
 float-back way own bits bytes before after S budget scratch b =
     let n : ℕ = S .count in
@@ -178,13 +221,17 @@ float-back way own bits bytes before after S budget scratch b =
     let range = float-bounds n (allowed-is n (S .its-count)) in
     let long : length s ≡ length before + (length bytes + length after) = simp length-append in
     let at : placeIn (length s) (length before) ≡ length before = place-same (length s) (length before) (omega arith) in
+    let first : Place = record { 0 = length before } in
     let next : Place = record { 0 = length before + 1 } in
     let left : Budget = record { 0 = budget .0 - numberCharge n } in
-    ap (λ (p : ℕ). atomFrom way s budget scratch (headerFrom way s p)) at
-    ∙ ap (atomFrom way s budget scratch) (back .0)
-    ∙ sym (float-left way s (n - 1) next budget left n (counted n (range .0) (range .1))
+    ap (λ (p : ℕ). atomFrom way s (record { 0 = p }) budget scratch (headerFrom way s p)) at
+    ∙ ap (atomFrom way s first budget scratch) (back .0)
+    ∙ sym (float-left way s (n - 1) first next budget left n (counted n (range .0) (range .1))
     (paid budget (numberCharge n) b) (S .its-count))
-    ∙ ap (floatAtom (n - 1) left) (from-body way s (length before + 1) n K.Float refl (S .its-count) ∙ back .1)
+    ∙ ap (floatAtom (n - 1) first next left)
+    (from-body way s (length before + 1) n K.Float refl (S .its-count) ∙ back .1)
+    ∙ behind before bytes K.Float (n - 1) left (N.Float (floatOf n (S .stored)) (S .stored)) 1
+    (float-header own bits bytes S)
 
 -- a written string is delivered: its mark names its bytes, in the source or in the scratch after
 pub bytes-delivered : (way : Way) (before bytes after : List ℕ) (budget : Budget) (scratch : List ℕ) →
@@ -281,18 +328,21 @@ natural-by n k l h = under k n (256 ^ 16) (ltb-true k n h) l
 
 module _ (way : Way) (before after : List ℕ) (budget : Budget) (scratch : List ℕ) where
   -- from a charge that is the price
-  back-as : (v : Value) (charge : ℕ) (a : Atom) →
+  back-as : (v : Value) (charge : ℕ) (kind : Kind) (arg : ℕ) (nucleus : Nucleus) →
       price (written v) ≡ charge →
       atomRead way (before ++ (written v ++ after)) (length before) budget scratch
-      ≡ A.Read (record { 0 = length before + length (written v) }) (record { 0 = budget .0 - charge }) a →
+      ≡ A.Read (record { 0 = length before + length (written v) }) (record { 0 = budget .0 - charge })
+      (atomBehind before (written v) kind arg nucleus) →
       Carries (before ++ (written v ++ after))
-      (atomScratch way (before ++ (written v ++ after)) (length before) budget scratch) a v →
+      (atomScratch way (before ++ (written v ++ after)) (length before) budget scratch)
+      (atomBehind before (written v) kind arg nucleus) v →
       ReadBack way before after budget scratch v
-  back-as v charge a e r c = record {
-    atom = a;
+  back-as v charge kind arg nucleus e r c = record {
+    atom = atomBehind before (written v) kind arg nucleus;
     is-read =
-        r ∙ ap (λ (n : ℕ). A.Read (record { 0 = length before + length (written v) }) (record { 0 = budget .0 - n }) a)
-        (sym e);
+        r ∙ ap (λ (n : ℕ). A.Read (record { 0 = length before + length (written v) }) (record { 0 = budget .0 - n })
+        (atomBehind before (written v) kind arg nucleus)) (sym e);
+    stands = refl;
     carries = c;
   }
 
@@ -311,8 +361,8 @@ module _ (way : Way) (before after : List ℕ) (budget : Budget) (scratch : List
       let p : price (valueBytes x) ≡ numberCharge (shortestS z) = ap price e ∙ signed-price z held in
       let w = signed-back way z before after budget scratch held
       (paid-for (valueBytes x) (numberCharge (shortestS z)) p b) in
-      back-as (integer x h) (numberCharge (shortestS z))
-      (atomOf (kindOf (sign x)) (shortestS z - 1) (N.Integer (intOf (shortestS z) (twosBits (shortestS z) z)))) p
+      back-as (integer x h) (numberCharge (shortestS z)) (kindOf (sign x)) (shortestS z - 1)
+      (N.Integer (intOf (shortestS z) (twosBits (shortestS z) z))) p
       (rw (e, k) (w .0)) (integer-carried (w .1 ∙ sym v))
 
   unsigned-as : (x : Integer) (h : inRange (sign x) (width x) (value x) ≡ true) (n : ℕ) →
@@ -326,8 +376,8 @@ module _ (way : Way) (before after : List ℕ) (budget : Budget) (scratch : List
       let p : price (valueBytes x) ≡ numberCharge (shortestU n) = ap price e ∙ unsigned-price n held in
       let w = unsigned-back way n before after budget scratch held
       (paid-for (valueBytes x) (numberCharge (shortestU n)) p b) in
-      back-as (integer x h) (numberCharge (shortestU n))
-      (atomOf (kindOf (sign x)) (shortestU n - 1) (N.Integer (uintOf (shortestU n) n))) p
+      back-as (integer x h) (numberCharge (shortestU n)) (kindOf (sign x)) (shortestU n - 1)
+      (N.Integer (uintOf (shortestU n) n)) p
       (rw (e, k) (w .0)) (integer-carried (w .1 ∙ sym v))
 
   integer-any : (x : Integer) (h : inRange (sign x) (width x) (value x) ≡ true) →
@@ -353,34 +403,57 @@ module _ (way : Way) (before after : List ℕ) (budget : Budget) (scratch : List
       price (written v) ≤ budget .0 →
       Carries (before ++ (written v ++ after))
       (atomScratch way (before ++ (written v ++ after)) (length before) budget scratch)
-      (atomOf K.Float (S .count - 1) (N.Float (floatOf (S .count) (S .stored)) (S .stored))) v →
+      (atomBehind before (written v) K.Float (S .count - 1)
+      (N.Float (floatOf (S .count) (S .stored)) (S .stored))) v →
       ReadBack way before after budget scratch v
   stored-read v own bits S b c =
       let e = float-price own bits (written v) S in
-      back-as v (numberCharge (S .count)) (atomOf K.Float (S .count - 1)
-      (N.Float (floatOf (S .count) (S .stored)) (S .stored))) e
+      back-as v (numberCharge (S .count)) K.Float (S .count - 1)
+      (N.Float (floatOf (S .count) (S .stored)) (S .stored)) e
       (float-back way own bits (written v) before after S budget scratch
       (paid-for (written v) (numberCharge (S .count)) e b)) c
 
-  -- a header alone
+  -- a header alone, which says all and costs nothing: its body is where the atom ends
+  header-all : (v : Value) (kind : Kind) (arg : ℕ) (nucleus : Nucleus) →
+      written v ≡ headerBytes kind arg →
+      arg < 2 ^ 64 →
+      chargeOf kind arg ≡ 0 →
+      atomRead way (before ++ (headerBytes kind arg ++ after)) (length before) budget scratch
+      ≡ headerTaken kind arg (record { 0 = length before })
+      (record { 0 = length before + length (headerBytes kind arg) }) nucleus budget →
+      Carries (before ++ (written v ++ after))
+      (atomScratch way (before ++ (written v ++ after)) (length before) budget scratch)
+      (atomBehind before (written v) kind arg nucleus) v →
+      ReadBack way before after budget scratch v
+  header-all v kind arg nucleus e h c r =
+      let first : Place = record { 0 = length before } in
+      let next : Place = record { 0 = length before + length (headerBytes kind arg) } in
+      let long : headerLength (headerBytes kind arg) ≡ length (headerBytes kind arg) =
+      ap headerLength (sym (append-nil (headerBytes kind arg))) ∙ header-long kind arg [] h in
+      back-as v 0 kind arg nucleus (ap price e ∙ price-alone kind arg h ∙ c)
+      (rw e
+      (r
+      ∙ ap (λ (n : ℕ). headerTaken kind arg first next nucleus (record { 0 = n })) (less-nothing (budget .0))
+      ∙ behind before (headerBytes kind arg) kind arg (record { 0 = budget .0 - 0 }) nucleus
+      (length (headerBytes kind arg)) long))
+
   header-read : (kind : Kind) (w : HeaderOnly kind) (arg : ℕ) (h : arg < 2 ^ 64) →
       chargeOf kind arg ≡ 0 →
-      atomAfter way (before ++ (headerBytes kind arg ++ after)) kind arg
+      atomAfter way (before ++ (headerBytes kind arg ++ after)) kind arg (record { 0 = length before })
       (record { 0 = length before + length (headerBytes kind arg) }) budget scratch
-      ≡ A.Read (record { 0 = length before + length (headerBytes kind arg) }) budget (atomOf kind arg N.None) →
+      ≡ headerTaken kind arg (record { 0 = length before })
+      (record { 0 = length before + length (headerBytes kind arg) }) N.None budget →
       ReadBack way before after budget scratch (header kind w arg h)
   header-read kind w arg h c r =
-      back-as (header kind w arg h) 0 (atomOf kind arg N.None) (price-alone kind arg h ∙ c)
-      (atom-back way kind arg before after budget scratch h ∙ r
-      ∙ ap (λ (n : ℕ). A.Read (record { 0 = length before + length (headerBytes kind arg) }) (record { 0 = n })
-      (atomOf kind arg N.None)) (less-nothing (budget .0)))
-      header-carried
+      header-all (header kind w arg h) kind arg N.None refl h c
+      (atom-back way kind arg before after budget scratch h ∙ r) header-carried
 
   -- a header that says all costs nothing
-  headed : (kind : Kind) (arg : ℕ) → chargeOf kind arg ≡ 0 → known kind arg ≡ true → {next : Place} →
-      judged kind arg next budget (headerTaken kind arg next N.None) ≡ A.Read next budget (atomOf kind arg N.None)
-  headed kind arg c k {next} =
-      sym (judged-left kind arg next budget (headerTaken kind arg next N.None) budget
+  headed : (kind : Kind) (arg : ℕ) → chargeOf kind arg ≡ 0 → known kind arg ≡ true → {first next : Place} →
+      judged kind arg next budget (headerTaken kind arg first next N.None)
+      ≡ headerTaken kind arg first next N.None budget
+  headed kind arg c k {first} {next} =
+      sym (judged-left kind arg next budget (headerTaken kind arg first next N.None) budget
       (ap (budgetAfter budget) c ∙ free budget) k)
 
   -- EVERY VALUE
@@ -392,15 +465,14 @@ module _ (way : Way) (before after : List ℕ) (budget : Budget) (scratch : List
       let e = signed-price z h in
       let w = signed-back way z before after budget scratch h
       (paid-for (signedBytes z) (numberCharge (shortestS z)) e b) in
-      back-as (number z h) (numberCharge (shortestS z))
-      (atomOf K.Int (shortestS z - 1) (N.Integer (intOf (shortestS z) (twosBits (shortestS z) z)))) e (w .0)
-      (number-carried (w .1))
+      back-as (number z h) (numberCharge (shortestS z)) K.Int (shortestS z - 1)
+      (N.Integer (intOf (shortestS z) (twosBits (shortestS z) z))) e (w .0) (number-carried (w .1))
   read-back (natural k h) b r =
       let e = unsigned-price k h in
       let w = unsigned-back way k before after budget scratch h
       (paid-for (unsignedBytes k) (numberCharge (shortestU k)) e b) in
-      back-as (natural k h) (numberCharge (shortestU k))
-      (atomOf K.UInt (shortestU k - 1) (N.Integer (uintOf (shortestU k) k))) e (w .0) (natural-carried (w .1))
+      back-as (natural k h) (numberCharge (shortestU k)) K.UInt (shortestU k - 1)
+      (N.Integer (uintOf (shortestU k) k)) e (w .0) (natural-carried (w .1))
   read-back (integer x h) b r = integer-any x h b
   read-back (f32-bits bits h) b r =
       let S = stored-single bits h in
@@ -425,16 +497,14 @@ module _ (way : Way) (before after : List ℕ) (budget : Budget) (scratch : List
       stored-read (f64 x h) 8 (floats.ownBits (F.F64 x)) (floats.stored-value (F.F64 x) h) b
       (f64-carried (floats.value-back (F.F64 x) h))
   read-back (special s) b r =
-      back-as (special s) 0 (atomOf K.Special (specialCode s) (specialNucleus s))
-      (price-alone K.Special (specialCode s) (small s))
-      (special-back way s before after budget scratch
-      ∙ ap (λ (n : ℕ). A.Read (record { 0 = length before + length (written (special s)) }) (record { 0 = n })
-      (atomOf K.Special (specialCode s) (specialNucleus s))) (less-nothing (budget .0)))
-      special-carried
+      header-all (special s) K.Special (specialCode s) (specialNucleus s) refl (small s) refl
+      (special-back way s before after budget scratch) special-carried
   read-back (string bytes h) b r =
       let n : ℕ = length bytes in
       let hd : List ℕ = headerBytes K.Bytes n in
       let mark = stringMark way (length before + length hd) n in
+      let first : Place = record { 0 = length before } in
+      let next : Place = record { 0 = length before + length hd } in
       let left : Budget = record { 0 = budget .0 - n } in
       let e : price (hd ++ bytes) ≡ n = price-headed K.Bytes n bytes h in
       let paid = paid-for (hd ++ bytes) n e b in
@@ -443,10 +513,11 @@ module _ (way : Way) (before after : List ℕ) (budget : Budget) (scratch : List
       let end : length before + length hd + n ≡ length before + length (hd ++ bytes) =
       omega (arith, length-append hd bytes)
       in
-      back-as (string bytes h) n (atomOf K.Bytes n (N.Bytes mark)) e
+      back-as (string bytes h) n K.Bytes n (N.Bytes mark) e
       (ap (λ (l : List ℕ). atomRead way l (length before) budget scratch) joined
       ∙ bytes-back way before bytes after budget scratch h paid r
-      ∙ ap (λ (p : ℕ). A.Read (record { 0 = p }) left (atomOf K.Bytes n (N.Bytes mark))) end)
+      ∙ ap (λ (p : ℕ). atomTaken K.Bytes n first next left (record { 0 = p }) (N.Bytes mark)) end
+      ∙ behind before (hd ++ bytes) K.Bytes n left (N.Bytes mark) (length hd) (header-long K.Bytes n bytes h))
       (string-carried (ap (λ (l : List ℕ). markedBytes mark l (atomScratch way l (length before) budget scratch)) joined
       ∙ bytes-delivered way before bytes after budget scratch h paid r))
   read-back (header K.Sequence sequence arg h) b r =

@@ -9,9 +9,13 @@ use lib.Dec.{T, lit<}
 use lib.IntN.{pos}
 use lib.ListN.{length}
 use lib.Ieee as Ieee
+use Rattle.types.specs.Counters.{noPlaces}
 use Rattle.types.specs.declared.Way.{Way}
 use Rattle.types.specs.declared.Way.the-variants as W
 use Rattle.types.specs.declared.Place.{Place}
+use Rattle.types.specs.declared.Places.{Places}
+use Rattle.types.specs.declared.Atom.{Atom}
+use Rattle.types.specs.declared.AtomAnswer.the-variants as A
 use Rattle.types.specs.declared.Budget.{Budget}
 use Rattle.types.specs.declared.Kind.{Kind}
 use Rattle.types.specs.declared.Kind.the-variants as K
@@ -28,10 +32,11 @@ use Rattle.binary.proofs.Widths.{half-single, single-double}
 use Rattle.binary.proofs.Laws.{widened-keeps, widened-nan}
 use Rattle.atom.specs.Atoms.{atomRead, atomScratch}
 use Rattle.dictionary.specs.Runs.{runAll, tallyAll, mostBytes}
-use Rattle.dictionary.specs.Wholes.{Atoms, total, price, bodyBytes, lettersIn}
+use Rattle.dictionary.specs.Wholes.{Atoms, total, price, bodyBytes, lettersIn, placesAt, lastFrom, lastPlaces}
 use Rattle.dictionary.specs.Prices.{Passing, asked, Barred, Made, Broken}
 use Rattle.dictionary.proofs.Price as Price
-use Rattle.promises.specs.Told.{Told, told, refused, toldAtom, toldRan, toldTally, toldNarrowed16, toldNarrowed32}
+use Rattle.promises.specs.Told.{Told, told, refused, placesTold, toldAtom, toldRan, toldTally, toldNarrowed16}
+use Rattle.promises.specs.Told.{toldNarrowed32}
 use Rattle.promises.specs.Held.{copied}
 use Rattle.promises.specs.Rows.{Row, Good, roomOf, taking}
 use Rattle.promises.specs.Entries.{KindRows, SpecialRows, HeaderRows, SignatureRows, BudgetRows, IntegerRows}
@@ -40,10 +45,13 @@ use Rattle.promises.specs.Casts.{EveryCast, WholeFloatRows, IntegralRows
 use Rattle.promises.specs.Casts.{FloatZeroRows, EqualIntegerRows, EqualFloatRows}
 use Rattle.promises.specs.Floats.{Ieee754}
 use Rattle.promises.specs.Runs.{RunRow}
+use Rattle.promises.specs.Placed.{Stands, between, earlier, moved, Chain, anyWay, exactly, Each, Level, Ahead}
 use Rattle.promises.specs.Values.{Value, written, roomFor, ReadBack}
 use Rattle.promises.proofs.Demand1 as Demand1
 use Rattle.promises.proofs.Entries as Entries
 use Rattle.promises.proofs.Runs as Runs
+use Rattle.promises.proofs.Stands as Stands
+use Rattle.promises.proofs.Alone as Alone
 use Rattle.promises.proofs.Demand2 as Demand2
 use Rattle.promises.proofs.IntegerCasts as IntegerCasts
 use Rattle.promises.proofs.Integrals as Integrals
@@ -51,17 +59,17 @@ use Rattle.promises.proofs.FloatCasts as FloatCasts
 use Rattle.promises.proofs.Compared as Compared
 
 -- 1: AN ATOM IS READ, OR REFUSED BY A ROW of document 01's table, by its number, with the place, the budget and the
--- scratch that the row says; if it is read, with what its bytes hold.
+-- scratch that the row says; if it is read, with its three places and what its bytes hold.
 pub demand1 : (way : Way) (s : List ℕ) (place : ℕ) (budget : Budget) (scratch : List ℕ) →
-    Row way s budget scratch (headerRead way s place)
+    Row way s place budget scratch (headerRead way s place)
     (toldAtom (atomRead way s place budget scratch)) (atomScratch way s place budget scratch)
 demand1 = Demand1.by-the-table
 
 -- At most one row fits: the table leaves one answer and one scratch.
-pub demand1-one : {way : Way} {s : List ℕ} {budget : Budget} {scratch : List ℕ} {header : HeaderAnswer} {a b : Told}
-    {t u : List ℕ} →
-    Row way s budget scratch header a t →
-    Row way s budget scratch header b u →
+pub demand1-one : {way : Way} {s : List ℕ} {place : ℕ} {budget : Budget} {scratch : List ℕ} {header : HeaderAnswer}
+    {a b : Told} {t u : List ℕ} →
+    Row way s place budget scratch header a t →
+    Row way s place budget scratch header b u →
     (a ≡ b) × (t ≡ u)
 demand1-one = Demand1.one-row
 
@@ -77,7 +85,7 @@ pub demand1-good : (way : Way) (s : List ℕ) (place : ℕ) (budget : Budget) (s
     (kind : Kind) (arg : ℕ) →
     headerRead way s place ≡ H.Read next kind arg →
     Good way s budget scratch next kind arg →
-    (toldAtom (atomRead way s place budget scratch) ≡ taking way s next budget kind arg)
+    (toldAtom (atomRead way s place budget scratch) ≡ taking way s place next budget kind arg)
     × (atomScratch way s place budget scratch ≡ copied s (next .0) (roomOf way kind arg) scratch)
 demand1-good way s place budget scratch next kind arg e g =
     Demand1.good-read e (demand1 way s place budget scratch) g
@@ -140,8 +148,33 @@ pub demand1-run-atom : (s front rest : List ℕ) (left : ℕ) {why : Refusal} {p
     ≡ refused (pos (length front + past) ∷ pos (left - charge) ∷ []) why
 demand1-run-atom = Runs.barred-atom
 
--- 2: WHAT WAS WRITTEN READS BACK as the value written: every value, every way, anything before and after it, any budget
--- of at least the price, any scratch with room.
+-- THE PLACES OF AN ATOM (document 02, K1): every atom that is read stands where it says, whatever the way,
+pub demand1-places : (way : Way) (s : List ℕ) (place : ℕ) (budget : Budget) (scratch : List ℕ) (after : Place)
+    (left : Budget) (atom : Atom) →
+    atomRead way s place budget scratch ≡ A.Read after left atom →
+    Stands way s place after atom
+demand1-places = Stands.stands
+
+-- its bytes read alone, from place 0, as the same atom moved by its first place,
+pub demand1-alone : (way : Way) (s : List ℕ) (place : ℕ) (budget : Budget) (scratch : List ℕ) (after : Place)
+    (left : Budget) (atom : Atom) →
+    atomRead way s place budget scratch ≡ A.Read after left atom →
+    atomRead way (between s (atom .places .first .0) (atom .places .after .0)) 0 budget scratch
+    ≡ A.Read (earlier (atom .places .first .0) (atom .places .after)) left (moved (atom .places .first .0) atom)
+demand1-alone = Alone.alone
+
+-- and of any chain of reads, each from the place after the one before, all three rise or stay level; under exact
+-- reading the first place rises.
+pub demand1-chain : {s : List ℕ} {place : ℕ} {places : List Places} → Chain anyWay s place places → Each Level places
+demand1-chain = Stands.rises
+
+pub demand1-chain-exact : {s : List ℕ} {place : ℕ} {places : List Places} →
+    Chain exactly s place places →
+    Each Ahead places
+demand1-chain-exact = Stands.rises-exactly
+
+-- 2: WHAT WAS WRITTEN READS BACK as the value written, with the places where it stands: every value, every way,
+-- anything before and after it, any budget of at least the price, any scratch with room.
 pub demand2 : (way : Way) (before after : List ℕ) (budget : Budget) (scratch : List ℕ) (value : Value) →
     price (written value) ≤ budget .0 →
     roomFor way value ≤ length scratch →
@@ -191,23 +224,24 @@ demand2-equal-floats = Compared.equal-floats
 
 -- 3: THE PRICE OF A FILE IS EXACT. Of whole, known atoms whose charges sum to C:
 pub record Priced (s : List ℕ) (atoms : List (List ℕ)) : Type 0 where
-  -- the tally reports the atoms, their body bytes, C and their letters
+  -- the tally reports the places of the last atom, the atoms, their body bytes, C and their letters
   pub reported : length s ≤ mostBytes →
       toldTally (tallyAll s)
       ≡ told 0
-      (pos (length atoms) ∷ pos (total bodyBytes atoms) ∷ pos (total price atoms) ∷
-      pos (total lettersIn atoms) ∷ [])
+      (placesTold (lastPlaces atoms)
+      (pos (length atoms) ∷ pos (total bodyBytes atoms) ∷ pos (total price atoms) ∷ pos (total lettersIn atoms) ∷ []))
   -- any budget of at least C reads all and leaves the budget less C
   pub afforded : (budget : ℕ) → total price atoms ≤ budget →
       toldRan (runAll s (record { 0 = budget }))
-      ≡ told 0 (pos (length s) ∷ pos (budget - total price atoms) ∷ pos (length atoms) ∷ [])
+      ≡ told 0
+      (pos (length s) ∷ pos (budget - total price atoms) ∷ pos (length atoms) ∷ placesTold (lastPlaces atoms) [])
   -- a smaller one is refused with 5 at the first atom whose running sum passes it: past its header, with the budget
-  -- less the charges of the atoms before it, their number, and where it starts
+  -- less the charges of the atoms before it, their number, the places of the last of them, and where it starts
   pub refused-at : (budget : ℕ) → budget < total price atoms →
       (p : Passing budget atoms) × (toldRan (runAll s (record { 0 = budget }))
       ≡ told 5
       (pos (total length (p .before) + headerLength (p .atom)) ∷ pos (budget - total price (p .before))
-      ∷ pos (length (p .before)) ∷ pos (total length (p .before)) ∷ []))
+      ∷ pos (length (p .before)) ∷ placesTold (lastPlaces (p .before)) (pos (total length (p .before)) ∷ [])))
   -- atoms never outnumber bytes
   pub atoms-bound : length atoms ≤ length s
   -- 3C is at most 4 times the body bytes
@@ -222,18 +256,31 @@ demand3 s atoms w = record {
   charge-bound = Price.price-body atoms;
 }
 
--- Every other file is refused at the first atom that is not whole or not known, with that atom's own refusal and where
--- it starts: by the tally, and by a run whose budget suffices for what is asked up to there.
+-- Where the last of them stands: after all that stand before it, "its first place, the place where its body starts and
+-- the place after it"; "all 0 if there was none".
+pub demand3-last : (before : List (List ℕ)) (atom : List ℕ) →
+    lastPlaces (before ++ (atom ∷ [])) ≡ placesAt (total length before) atom
+demand3-last = Price.last-is-last
+
+pub demand3-no-last : lastPlaces [] ≡ noPlaces
+unfolding lastFrom
+demand3-no-last = refl
+
+-- Every other file is refused at the first atom that is not whole or not known, with the places of the last atom before
+-- it, its own refusal and where it starts: by the tally, and by a run whose budget suffices for what is asked up to
+-- there.
 pub record Stopped (s : List ℕ) (broken : Broken s) : Type 0 where
   pub reported : length s ≤ mostBytes →
-      toldTally (tallyAll s) ≡ refused (pos (length (broken .front-bytes)) ∷ []) (broken .why)
+      toldTally (tallyAll s)
+      ≡ refused (placesTold (lastPlaces (broken .atoms)) (pos (length (broken .front-bytes)) ∷ [])) (broken .why)
   pub afforded : (budget : ℕ) → total price (broken .atoms) + asked (broken .rest) ≤ budget →
       (past : ℕ) × (charge : ℕ)
       × Barred (broken .rest) (budget - total price (broken .atoms)) (broken .why) past charge
       × (toldRan (runAll s (record { 0 = budget }))
       ≡ refused
       (pos (length (broken .front-bytes) + past) ∷ pos (budget - total price (broken .atoms) - charge)
-      ∷ pos (length (broken .atoms)) ∷ pos (length (broken .front-bytes)) ∷ []) (broken .why))
+      ∷ pos (length (broken .atoms))
+      ∷ placesTold (lastPlaces (broken .atoms)) (pos (length (broken .front-bytes)) ∷ [])) (broken .why))
 
 pub demand3-otherwise : (s : List ℕ) → Made s ⊎ ((broken : Broken s) × Stopped s broken)
 demand3-otherwise s = ⊎-elim inl (λ broken. inr (broken, stops broken)) (Price.judged s)

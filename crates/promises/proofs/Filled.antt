@@ -9,7 +9,7 @@ use lib.Dec.{ltb, leb}
 use lib.ListN.{length, drop}
 use borrow.Author.Tests.{leb-true, leb-false}
 use Rattle.types.specs.Choice.{pick}
-use Rattle.types.specs.Counters.{placeIn}
+use Rattle.types.specs.Counters.{placeIn, noPlaces}
 use Rattle.types.specs.Forms.{allowedCount, allowedFloat, countOf, known, bodyLength, chargeOf, unknown}
 use Rattle.types.specs.declared.Way.the-variants as W
 use Rattle.types.specs.declared.Kind.{Kind}
@@ -35,17 +35,17 @@ use Rattle.integer.proofs.Answers as integers
 use Rattle.float.specs.Floats.{floatOf, floatFrom, floatBody}
 use Rattle.float.proofs.Answers as floats
 use Rattle.atom.specs.Atoms.{atomOf, atomRead, atomFrom, atomAfter, charged, judged, integerAtom, floatAtom}
-use Rattle.atom.specs.Atoms.{integerTaken, floatTaken, bodyTaken}
+use Rattle.atom.specs.Atoms.{integerTaken, floatTaken, bodyTaken, firstPlace}
 use Rattle.atom.proofs.Answers.{free}
 
--- AN EMPTY SLICE answers None at place 0, whatever the place given, and leaves the budget
+-- AN EMPTY SLICE answers None at place 0, whatever the place given, and leaves the budget; its three places are 0
 pub none-for-ever : (place : ℕ) (budget : Budget) (scratch : List ℕ) →
-    atomRead W.Filled [] place budget scratch ≡ A.Read (record { 0 = 0 }) budget (atomOf K.Special 0 N.None)
+    atomRead W.Filled [] place budget scratch ≡ A.Read (record { 0 = 0 }) budget (atomOf K.Special 0 noPlaces N.None)
 unfolding atomRead headerFrom headerLength headerArgument laterCount laterValue judged
 none-for-ever place budget scratch =
     let within : placeIn 0 place ≤ 0 = place-within 0 place in
     let start : placeIn 0 place ≡ 0 = omega arith in
-    ap (λ (at : ℕ). atomFrom W.Filled [] budget scratch (headerFrom W.Filled [] at)) start
+    ap (λ (at : ℕ). atomFrom W.Filled [] (record { 0 = at }) budget scratch (headerFrom W.Filled [] at)) start
     ∙ rw (free budget) refl
 
 -- a number does not run out: its bytes, and so a number read asked for directly
@@ -113,19 +113,21 @@ judged-end next budget charge body r p b true u k h = absurd (false≢true cc)
 judged-end next budget charge body r p b false true k h = (record { 0 = budget .0 - charge }, h)
 judged-end next budget charge body r p b false false k h = absurd (false≢true (k cc))
 
-integer-end : (kind : Kind) (arg : ℕ) (rest : Budget) (a : IntegerAnswer) (p : Place) (b : Budget) →
-    integerAtom kind arg rest a ≡ A.Refused p b R.Eof →
+integer-end : (kind : Kind) (arg : ℕ) (first next : Place) (rest : Budget) (a : IntegerAnswer) (p : Place)
+    (b : Budget) →
+    integerAtom kind arg first next rest a ≡ A.Refused p b R.Eof →
     a ≡ IA.Refused p R.Eof
-integer-end kind arg rest (IA.Read q v) p b h = absurd (false≢true cc)
-integer-end kind arg rest (IA.Refused q r) p b h = cc
+integer-end kind arg first next rest (IA.Read q v) p b h = absurd (false≢true cc)
+integer-end kind arg first next rest (IA.Refused q r) p b h = cc
 
-float-end : (arg : ℕ) (rest : Budget) (a : FloatAnswer) (p : Place) (b : Budget) →
-    floatAtom arg rest a ≡ A.Refused p b R.Eof →
+float-end : (arg : ℕ) (first next : Place) (rest : Budget) (a : FloatAnswer) (p : Place) (b : Budget) →
+    floatAtom arg first next rest a ≡ A.Refused p b R.Eof →
     a ≡ FA.Refused p R.Eof
-float-end arg rest (FA.Read q v bits) p b h = absurd (false≢true cc)
-float-end arg rest (FA.Refused q r) p b h = cc
+float-end arg first next rest (FA.Read q v bits) p b h = absurd (false≢true cc)
+float-end arg first next rest (FA.Refused q r) p b h = cc
 
-module _ (s : List ℕ) (arg : ℕ) (next : Place) (budget : Budget) (scratch : List ℕ) (p : Place) (b : Budget) where
+module _ (s : List ℕ) (arg : ℕ) (first next : Place) (budget : Budget) (scratch : List ℕ) (p : Place)
+    (b : Budget) where
   -- the refusal of an atom that is not known is another
   other-refusal : (kind : Kind) → unknown kind arg ≡ R.Eof → known kind arg ≡ true
   other-refusal K.Special e = absurd (false≢true cc)
@@ -137,18 +139,19 @@ module _ (s : List ℕ) (arg : ℕ) (next : Place) (budget : Budget) (scratch : 
   other-refusal K.Symbol e = refl
   other-refusal K.Bytes e = refl
 
-  no-integer : (kind : Kind) (rest : Budget) → integerTaken W.Filled s kind arg next rest ≡ A.Refused p b R.Eof → ⊥
+  no-integer : (kind : Kind) (rest : Budget) →
+      integerTaken W.Filled s kind arg first next rest ≡ A.Refused p b R.Eof → ⊥
   no-integer kind rest h =
       integer-body s (next .0) kind (bodyLength kind arg) p (leb (next .0 + bodyLength kind arg) (length s)) refl
-      (integer-end kind arg rest (integerBody W.Filled s (next .0) kind (bodyLength kind arg)) p b h)
+      (integer-end kind arg first next rest (integerBody W.Filled s (next .0) kind (bodyLength kind arg)) p b h)
 
-  no-float : (rest : Budget) → floatTaken W.Filled s arg next rest ≡ A.Refused p b R.Eof → ⊥
+  no-float : (rest : Budget) → floatTaken W.Filled s arg first next rest ≡ A.Refused p b R.Eof → ⊥
   no-float rest h =
       float-body s (next .0) (countOf arg) p (leb (next .0 + countOf arg) (length s)) refl
-      (float-end arg rest (floatBody W.Filled s (next .0) (countOf arg)) p b h)
+      (float-end arg first next rest (floatBody W.Filled s (next .0) (countOf arg)) p b h)
 
-  taken : (kind : Kind) (rest : Budget) → bodyTaken W.Filled s kind arg next scratch rest ≡ A.Refused p b R.Eof →
-      kind ≡ K.Bytes
+  taken : (kind : Kind) (rest : Budget) →
+      bodyTaken W.Filled s kind arg first next scratch rest ≡ A.Refused p b R.Eof → kind ≡ K.Bytes
   taken K.Special rest h = absurd (false≢true cc)
   taken K.Int rest h = absurd (no-integer K.Int rest h)
   taken K.UInt rest h = absurd (no-integer K.UInt rest h)
@@ -158,22 +161,25 @@ module _ (s : List ℕ) (arg : ℕ) (next : Place) (budget : Budget) (scratch : 
   taken K.Symbol rest h = absurd (false≢true cc)
   taken K.Bytes rest h = refl
 
-  after : (kind : Kind) → atomAfter W.Filled s kind arg next budget scratch ≡ A.Refused p b R.Eof → kind ≡ K.Bytes
+  after : (kind : Kind) → atomAfter W.Filled s kind arg first next budget scratch ≡ A.Refused p b R.Eof →
+      kind ≡ K.Bytes
   unfolding judged
   after kind h =
       let x =
-      judged-end next budget (chargeOf kind arg) (bodyTaken W.Filled s kind arg next scratch) (unknown kind arg) p b
-      (ltb (budget .0) (chargeOf kind arg)) (known kind arg) (other-refusal kind) h
+      judged-end next budget (chargeOf kind arg) (bodyTaken W.Filled s kind arg first next scratch) (unknown kind arg)
+      p b (ltb (budget .0) (chargeOf kind arg)) (known kind arg) (other-refusal kind) h
       in
       taken kind (x .0) (x .1)
 
-headed : (s : List ℕ) (budget : Budget) (scratch : List ℕ) (kind : Kind) (arg end : ℕ) (p : Place) (b : Budget)
-    (t : Bool) →
-    atomFrom W.Filled s budget scratch (pick t (H.Read (record { 0 = end }) kind arg)
+headed : (s : List ℕ) (first : Place) (budget : Budget) (scratch : List ℕ) (kind : Kind) (arg end : ℕ) (p : Place)
+    (b : Budget) (t : Bool) →
+    atomFrom W.Filled s first budget scratch (pick t (H.Read (record { 0 = end }) kind arg)
     (H.Read (record { 0 = length s }) kind arg)) ≡ A.Refused p b R.Eof →
     kind ≡ K.Bytes
-headed s budget scratch kind arg end p b true h = after s arg (record { 0 = end }) budget scratch p b kind h
-headed s budget scratch kind arg end p b false h = after s arg (record { 0 = length s }) budget scratch p b kind h
+headed s first budget scratch kind arg end p b true h =
+    after s arg first (record { 0 = end }) budget scratch p b kind h
+headed s first budget scratch kind arg end p b false h =
+    after s arg first (record { 0 = length s }) budget scratch p b kind h
 
 -- ONLY A STRING CAN RUN OUT: an atom that filled reading refuses with 4 is a string
 pub only-a-string : (s : List ℕ) (place : ℕ) (budget : Budget) (scratch : List ℕ) (p : Place) (b : Budget) →
@@ -182,5 +188,5 @@ pub only-a-string : (s : List ℕ) (place : ℕ) (budget : Budget) (scratch : Li
 unfolding atomRead headerFrom
 only-a-string s place budget scratch p b h =
     let at : ℕ = placeIn (length s) place in
-    headed s budget scratch (headerKind (drop at s)) (headerArgument (drop at s)) (at + headerLength (drop at s)) p b
-    (leb (at + headerLength (drop at s)) (length s)) h
+    headed s (firstPlace s place) budget scratch (headerKind (drop at s)) (headerArgument (drop at s))
+    (at + headerLength (drop at s)) p b (leb (at + headerLength (drop at s)) (length s)) h

@@ -27,6 +27,8 @@ pub mod Held
 pub mod Demand1
 pub mod Entries
 pub mod Runs
+pub mod Stands
+pub mod Alone
 pub mod IntegerCasts
 pub mod Compared
 pub mod Integrals

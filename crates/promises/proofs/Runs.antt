@@ -15,12 +15,12 @@ use Rattle.types.specs.declared.Refusal.{Refusal}
 use Rattle.types.specs.declared.Ran.{Ran}
 use Rattle.atom.specs.Atoms.{atomRead}
 use Rattle.dictionary.specs.Runs.{runAll}
-use Rattle.dictionary.specs.Wholes.{Atoms, total, price}
+use Rattle.dictionary.specs.Wholes.{Atoms, total, price, lastPlaces}
 use Rattle.dictionary.specs.Prices.{asked, Barred, Made, Broken}
 use Rattle.dictionary.proofs.Turns.{step-refused}
 use Rattle.dictionary.proofs.Wholes.{Bars, barred-refuses, spoilt-bars, dear-bars}
 use Rattle.dictionary.proofs.Price.{run-priced, run-barred, parted, passing-bars, passing-some, judged}
-use Rattle.promises.specs.Told.{Told, refused, toldAtom, toldRan}
+use Rattle.promises.specs.Told.{Told, refused, placesTold, toldAtom, toldRan}
 use Rattle.promises.specs.Runs.{RunRow, done, stopped}
 
 module _ (s : List ℕ) (budget : ℕ) where
@@ -100,8 +100,8 @@ pub broken-run : (s : List ℕ) (b : Broken s) (budget : ℕ) → total price (b
     (past : ℕ) × (charge : ℕ) × Barred (b .rest) (budget - total price (b .atoms)) (b .why) past charge
     × (toldRan (runAll s (record { 0 = budget }))
     ≡ refused
-    (pos (length (b .front-bytes) + past) ∷ pos (budget - total price (b .atoms) - charge)
-    ∷ pos (length (b .atoms)) ∷ pos (length (b .front-bytes)) ∷ []) (b .why))
+    (pos (length (b .front-bytes) + past) ∷ pos (budget - total price (b .atoms) - charge) ∷ pos (length (b .atoms))
+    ∷ placesTold (lastPlaces (b .atoms)) (pos (length (b .front-bytes)) ∷ [])) (b .why))
 broken-run s b budget enough =
     let c : total price (b .atoms) ≤ budget = omega arith in
     let r = spoilt-bars (b .rest) (budget - total price (b .atoms)) (b .why) (b .spoilt) (omega arith) in (

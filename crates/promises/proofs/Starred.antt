@@ -49,13 +49,15 @@ pub record Starred : Type 0 where
   pub means-65520 : meaning single 0x477FF000 ≡ finite false (65520 * 2 ^ 1074)
   pub f65520 : f32Bytes 0x477FF000 ≡ 0x63 ∷ 0x00 ∷ 0xF0 ∷ 0x7F ∷ 0x47 ∷ []
   -- "`22 00 00 80`: budget 3 gives 5, budget 3, place 1; budget 4 reads, 0 left": place, budget; the kind Int with
-  -- argument 2 holds an integer, signed, of 32 bits
+  -- argument 2, at 0, 1 and 4, holds an integer, signed, of 32 bits
   pub budget-3 :
       toldAtom (atomRead W.Filled (0x22 ∷ 0x00 ∷ 0x00 ∷ 0x80 ∷ []) 0 (record { 0 = 3 }) [])
       ≡ told 5 (pos 1 ∷ pos 3 ∷ [])
   pub budget-4 :
       toldAtom (atomRead W.Filled (0x22 ∷ 0x00 ∷ 0x00 ∷ 0x80 ∷ []) 0 (record { 0 = 4 }) [])
-      ≡ told 0 (pos 4 ∷ pos 0 ∷ pos (kindCode K.Int) ∷ pos 2 ∷ nucleusTold (N.Integer (I.I32 (negsuc 8388607))))
+      ≡ told 0
+      (pos 4 ∷ pos 0 ∷ pos (kindCode K.Int) ∷ pos 2 ∷ pos 0 ∷ pos 1 ∷ pos 4
+      ∷ nucleusTold (N.Integer (I.I32 (negsuc 8388607))))
   -- "`24`: budget 9 gives 6(Int, 5), budget 4; budget 4 gives 5"
   pub width-5 :
       toldAtom (atomRead W.Filled (0x24 ∷ []) 0 (record { 0 = 9 }) [])
@@ -64,7 +66,8 @@ pub record Starred : Type 0 where
   -- "`41 2C` filled: U16(44), place 2; exact: 4"
   pub filled-44 :
       toldAtom (atomRead W.Filled (0x41 ∷ 0x2C ∷ []) 0 (record { 0 = 2 }) [])
-      ≡ told 0 (pos 2 ∷ pos 0 ∷ pos (kindCode K.UInt) ∷ pos 1 ∷ nucleusTold (N.Integer (I.U16 44)))
+      ≡ told 0
+      (pos 2 ∷ pos 0 ∷ pos (kindCode K.UInt) ∷ pos 1 ∷ pos 0 ∷ pos 1 ∷ pos 2 ∷ nucleusTold (N.Integer (I.U16 44)))
   pub exact-44 :
       toldAtom (atomRead W.ExactLent (0x41 ∷ 0x2C ∷ []) 0 (record { 0 = 2 }) []) ≡ told 4 (pos 2 ∷ pos 0 ∷ [])
   -- "`70 6F 74 01` is taken, version 1"

@@ -10,7 +10,7 @@ use mathlib.Core.List.{List, [], _∷_, _++_}
 use lib.IntN.{pos}
 use lib.ListN.{length, take, drop}
 use Rattle.types.specs.Ways.{exact}
-use Rattle.types.specs.Counters.{placeIn}
+use Rattle.types.specs.Counters.{placeIn, noPlaces}
 use Rattle.types.specs.Kinds.{kindCode, kindFrom, specialFrom}
 use Rattle.types.specs.Forms.{allowedCount, allowedFloat}
 use Rattle.types.specs.declared.Way.{Way}
@@ -32,6 +32,7 @@ use Rattle.dictionary.specs.Runs.{tallyAll, mostBytes}
 use Rattle.report.specs.Reports.{reportOf, mostFileBytes}
 use Rattle.promises.specs.Told.{told, markTold, toldKind, toldSpecial, toldHeader, toldVersion, toldInteger}
 use Rattle.promises.specs.Told.{toldFloat, toldBytes, toldRaw, toldBudget, toldWritten, toldTally, toldReport}
+use Rattle.promises.specs.Told.{placesTold}
 use Rattle.promises.specs.Held.{integerHeld, floatHeld, copied}
 
 -- the bytes up to a place are in the source, or filled with zeros; or exact reading ends
@@ -204,7 +205,8 @@ pub record HeldRows (held : Bool) (bytes old : List ℕ) : Type 0 where
       (heldAnswer held bytes old ≡ writtenAnswer bytes old) ×
       (heldContent held bytes old ≡ writtenContent bytes old)
 
--- "10 TooLong: tally input over 16,777,216 bytes; its program over 65,536"
+-- "10 TooLong: tally input over 16,777,216 bytes; its program over 65,536"; no atom was read, so that the places of the
+-- last are "all 0"
 pub record LengthRows (s : List ℕ) : Type 0 where
-  pub tally-ten : mostBytes < length s → toldTally (tallyAll s) ≡ told 10 []
+  pub tally-ten : mostBytes < length s → toldTally (tallyAll s) ≡ told 10 (placesTold noPlaces [])
   pub program-ten : mostFileBytes < length s → toldReport (reportOf s) ≡ told 10 (pos 0 ∷ [])

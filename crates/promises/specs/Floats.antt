@@ -24,9 +24,9 @@ use Rattle.binary.specs.Conversions.{widened, narrowed, answer16, answer32}
 use Rattle.binary.specs.Floats.{floatMeaning, plain, layoutOf}
 use Rattle.float.specs.Floats.{floatRead}
 use Rattle.atom.specs.Atoms.{atomRead}
-use Rattle.promises.specs.Told.{Told, told, toldFloat, toldAtom, toldNarrowed16, toldNarrowed32}
+use Rattle.promises.specs.Told.{Told, told, placesTold, toldFloat, toldAtom, toldNarrowed16, toldNarrowed32}
 use Rattle.promises.specs.Held.{floatHeld}
-use Rattle.promises.specs.Rows.{Good}
+use Rattle.promises.specs.Rows.{Good, standing}
 use Rattle.promises.specs.Entries.{There}
 use Rattle.promises.specs.Casts.{WholeFloatRows}
 
@@ -59,8 +59,10 @@ pub record Ieee754 : Type 0 where
       toldAtom (atomRead way s place budget scratch)
       ≡ told 0
       (pos (placeIn (length s) (next .0 + countOf arg)) ∷ pos (budget .0 - chargeOf K.Float arg)
-      ∷ pos (kindCode K.Float) ∷ pos arg ∷ pos 3 ∷ pos (numberAt (countOf arg) s (next .0))
-      ∷ floatHeld (countOf arg) (numberAt (countOf arg) s (next .0)))
+      ∷ pos (kindCode K.Float) ∷ pos arg
+      ∷ placesTold (standing s place next K.Float arg)
+      (pos 3 ∷ pos (numberAt (countOf arg) s (next .0))
+      ∷ floatHeld (countOf arg) (numberAt (countOf arg) s (next .0))))
   -- widening keeps a number
   pub widens-half : (bits : ℕ) →
       NotNan (meaning half bits) →

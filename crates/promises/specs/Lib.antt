@@ -6,3 +6,4 @@ pub mod Casts
 pub mod Floats
 pub mod Values
 pub mod Runs
+pub mod Placed

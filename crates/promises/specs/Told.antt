@@ -12,6 +12,7 @@ use Rattle.types.specs.Choice.{pick}
 use Rattle.types.specs.Kinds.{kindCode, specialCode}
 use Rattle.types.specs.Refusals.{refusalNumber, refusalData}
 use Rattle.types.specs.declared.Mark.{Mark}
+use Rattle.types.specs.declared.Places.{Places}
 use Rattle.types.specs.declared.Integer.{Integer}
 use Rattle.types.specs.declared.Float.{Float}
 use Rattle.types.specs.declared.Float.the-variants as F
@@ -133,25 +134,33 @@ abbrev pub toldRaw : RawAnswer → Told
 toldRaw (RA.Read p n) = taken (pos (p .0) ∷ pos n ∷ [])
 toldRaw (RA.Refused p r) = refused (pos (p .0) ∷ []) r
 
+-- the three places of an atom, in front of the values that follow. Document 02, K1: "its first place, the place where
+-- its body starts and the place after it".
+abbrev pub placesTold : Places → List ℤ → List ℤ
+placesTold places vs = pos (places .first .0) ∷ pos (places .body .0) ∷ pos (places .after .0) ∷ vs
+
 -- the step: a string is told by 1, another atom by 0
 abbrev pub toldSkipped : Skipped → Told
-toldSkipped (SK.Past p b body string) =
-    taken (pos (p .0) ∷ pos (b .0) ∷ pos (body .0) ∷ pos (pick string 1 0) ∷ [])
+toldSkipped (SK.Past p b places string) =
+    taken (pos (p .0) ∷ pos (b .0) ∷ placesTold places (pos (pick string 1 0) ∷ []))
 toldSkipped (SK.Refused p b r) = refused (pos (p .0) ∷ pos (b .0) ∷ []) r
 
--- the run: the place where a refused atom starts stands before the refusal's data
+-- the run: "The run and the tally, refused or not, answer the three places of the last atom they read"; behind them the
+-- place where a refused atom starts, before the refusal's data
 abbrev pub toldRan : Ran → Told
-toldRan (RN.Done p b atoms) = taken (pos (p .0) ∷ pos (b .0) ∷ pos atoms ∷ [])
-toldRan (RN.Stopped p b atoms r start) = refused (pos (p .0) ∷ pos (b .0) ∷ pos atoms ∷ pos (start .0) ∷ []) r
+toldRan (RN.Done p b atoms last) = taken (pos (p .0) ∷ pos (b .0) ∷ pos atoms ∷ placesTold last [])
+toldRan (RN.Stopped p b atoms last r start) =
+    refused (pos (p .0) ∷ pos (b .0) ∷ pos atoms ∷ placesTold last (pos (start .0) ∷ [])) r
 
 -- "It answers atoms, body bytes, charge and letters."
 abbrev pub tallyTold : Tallied → List ℤ
 tallyTold t = pos (t .atoms) ∷ pos (t .body .0) ∷ pos (t .charge) ∷ pos (t .letters) ∷ []
 
+-- the tally: the places of the last atom that it read stand first, "all 0 if there was none"
 abbrev pub toldTally : TallyAnswer → Told
-toldTally (TA.Stopped start r) = refused (pos (start .0) ∷ []) r
-toldTally (TA.Refused r) = refused [] r
-toldTally (TA.Done t) = taken (tallyTold t)
+toldTally (TA.Done last t) = taken (placesTold last (tallyTold t))
+toldTally (TA.Stopped last r start) = refused (placesTold last (pos (start .0) ∷ [])) r
+toldTally (TA.Refused last r) = refused (placesTold last []) r
 
 -- an integer by its variant, signed or not and so many bits wide, and its value
 abbrev signTold : Sign → ℕ
@@ -195,9 +204,12 @@ abbrev pub toldFloat : FloatAnswer → Told
 toldFloat (FA.Read p x stored) = taken (pos (p .0) ∷ pos stored ∷ floatTold x)
 toldFloat (FA.Refused p r) = refused (pos (p .0) ∷ []) r
 
+-- "Each atom read is to carry its first place, the place where its body starts and the place after it."
 abbrev pub toldAtom : AtomAnswer → Told
 toldAtom (A.Read p b x) =
-    taken (pos (p .0) ∷ pos (b .0) ∷ pos (kindCode (x .kind)) ∷ pos (x .arg) ∷ nucleusTold (x .nucleus))
+    taken
+    (pos (p .0) ∷ pos (b .0) ∷ pos (kindCode (x .kind)) ∷ pos (x .arg)
+    ∷ placesTold (x .places) (nucleusTold (x .nucleus)))
 toldAtom (A.Refused p b r) = refused (pos (p .0) ∷ pos (b .0) ∷ []) r
 
 abbrev pub toldBudget : BudgetAnswer → Told

@@ -20,6 +20,7 @@ use Rattle.types.specs.declared.Float.{Float}
 use Rattle.types.specs.declared.Float.the-variants as F
 use Rattle.types.specs.declared.Nucleus.the-variants as N
 use Rattle.types.specs.declared.Atom.{Atom}
+use Rattle.types.specs.declared.Places.{Places}
 use Rattle.types.specs.declared.Budget.{Budget}
 use Rattle.types.specs.declared.AtomAnswer.the-variants as A
 use Rattle.header.specs.Header.{headerBytes}
@@ -34,7 +35,7 @@ use Rattle.binary.specs.Floats.{plain}
 use Rattle.float.specs.Bytes as Floats
 use Rattle.float.specs.Values.{floatValue, floatMeans}
 use Rattle.atom.specs.Atoms.{atomOf, specialNucleus, atomRead, atomScratch}
-use Rattle.dictionary.specs.Wholes.{price}
+use Rattle.dictionary.specs.Wholes.{price, placesAt}
 
 -- "Sequence, Map and Symbol are their header only."
 pub data HeaderOnly : Kind → Type 0 where
@@ -95,42 +96,45 @@ pub record Means (layout : Layout) (bits : ℕ) (x : Float) (stored : ℕ) : Typ
 
 -- An atom of the kind that was written carries the value: an integer its number; a float the meaning of the pattern, or
 -- the value; a string's mark names its bytes, in the source or in the scratch; a special and a header are the atom
--- itself.
+-- itself. Where the atom stands, `ReadBack` says.
 pub data Carries (source scratch : List ℕ) : Atom → Value → Type 0 where
-  number-carried : {arg : ℕ} {n : Integer} {z : ℤ} {h : holdsS 16 z ≡ true} →
+  number-carried : {arg : ℕ} {places : Places} {n : Integer} {z : ℤ} {h : holdsS 16 z ≡ true} →
       value n ≡ z →
-      Carries source scratch (atomOf K.Int arg (N.Integer n)) (number z h)
-  natural-carried : {arg : ℕ} {n : Integer} {k : ℕ} {h : k < 256 ^ 16} →
+      Carries source scratch (atomOf K.Int arg places (N.Integer n)) (number z h)
+  natural-carried : {arg : ℕ} {places : Places} {n : Integer} {k : ℕ} {h : k < 256 ^ 16} →
       value n ≡ pos k →
-      Carries source scratch (atomOf K.UInt arg (N.Integer n)) (natural k h)
-  integer-carried : {arg : ℕ} {n x : Integer} {h : inRange (sign x) (width x) (value x) ≡ true} →
+      Carries source scratch (atomOf K.UInt arg places (N.Integer n)) (natural k h)
+  integer-carried : {arg : ℕ} {places : Places} {n x : Integer} {h : inRange (sign x) (width x) (value x) ≡ true} →
       value n ≡ value x →
-      Carries source scratch (atomOf (kindOf (sign x)) arg (N.Integer n)) (integer x h)
-  f32-bits-carried : {arg : ℕ} {x : Float} {stored bits : ℕ} {h : bits < 256 ^ 4} →
+      Carries source scratch (atomOf (kindOf (sign x)) arg places (N.Integer n)) (integer x h)
+  f32-bits-carried : {arg : ℕ} {places : Places} {x : Float} {stored bits : ℕ} {h : bits < 256 ^ 4} →
       Means single bits x stored →
-      Carries source scratch (atomOf K.Float arg (N.Float x stored)) (f32-bits bits h)
-  f64-bits-carried : {arg : ℕ} {x : Float} {stored bits : ℕ} {h : bits < 256 ^ 8} →
+      Carries source scratch (atomOf K.Float arg places (N.Float x stored)) (f32-bits bits h)
+  f64-bits-carried : {arg : ℕ} {places : Places} {x : Float} {stored bits : ℕ} {h : bits < 256 ^ 8} →
       Means double bits x stored →
-      Carries source scratch (atomOf K.Float arg (N.Float x stored)) (f64-bits bits h)
-  f32-carried : {arg : ℕ} {y : Float} {stored : ℕ} {x : Ieee.Float} {h : T (Ieee.fits Ieee.binary32 x)} →
+      Carries source scratch (atomOf K.Float arg places (N.Float x stored)) (f64-bits bits h)
+  f32-carried : {arg : ℕ} {places : Places} {y : Float} {stored : ℕ} {x : Ieee.Float}
+      {h : T (Ieee.fits Ieee.binary32 x)} →
       floatValue y ≡ x →
-      Carries source scratch (atomOf K.Float arg (N.Float y stored)) (f32 x h)
-  f64-carried : {arg : ℕ} {y : Float} {stored : ℕ} {x : Ieee.Float} {h : T (Ieee.fits Ieee.binary64 x)} →
+      Carries source scratch (atomOf K.Float arg places (N.Float y stored)) (f32 x h)
+  f64-carried : {arg : ℕ} {places : Places} {y : Float} {stored : ℕ} {x : Ieee.Float}
+      {h : T (Ieee.fits Ieee.binary64 x)} →
       floatValue y ≡ x →
-      Carries source scratch (atomOf K.Float arg (N.Float y stored)) (f64 x h)
-  special-carried : {s : Special} →
-      Carries source scratch (atomOf K.Special (specialCode s) (specialNucleus s)) (special s)
-  string-carried : {mark : Mark} {bytes : List ℕ} {h : length bytes < 2 ^ 64} →
+      Carries source scratch (atomOf K.Float arg places (N.Float y stored)) (f64 x h)
+  special-carried : {places : Places} {s : Special} →
+      Carries source scratch (atomOf K.Special (specialCode s) places (specialNucleus s)) (special s)
+  string-carried : {places : Places} {mark : Mark} {bytes : List ℕ} {h : length bytes < 2 ^ 64} →
       markedBytes mark source scratch ≡ bytes →
-      Carries source scratch (atomOf K.Bytes (length bytes) (N.Bytes mark)) (string bytes h)
-  header-carried : {kind : Kind} {w : HeaderOnly kind} {arg : ℕ} {h : arg < 2 ^ 64} →
-      Carries source scratch (atomOf kind arg N.None) (header kind w arg h)
+      Carries source scratch (atomOf K.Bytes (length bytes) places (N.Bytes mark)) (string bytes h)
+  header-carried : {kind : Kind} {w : HeaderOnly kind} {arg : ℕ} {places : Places} {h : arg < 2 ^ 64} →
+      Carries source scratch (atomOf kind arg places N.None) (header kind w arg h)
 
 -- the source, with anything before and after what was written
 abbrev pub around : List ℕ → List ℕ → Value → List ℕ
 around before after value = before ++ (written value ++ after)
 
--- WHAT WAS WRITTEN READS BACK: just past it, for its price, an atom that carries the value
+-- WHAT WAS WRITTEN READS BACK: just past it, for its price, an atom that stands where it was written, first, past its
+-- header and past all of it, and that carries the value
 pub record ReadBack (way : Way) (before after : List ℕ) (budget : Budget) (scratch : List ℕ)
     (value : Value) : Type 0
   where
@@ -139,6 +143,7 @@ pub record ReadBack (way : Way) (before after : List ℕ) (budget : Budget) (scr
         atomRead way (around before after value) (length before) budget scratch
         ≡ A.Read (record { 0 = length before + length (written value) })
         (record { 0 = budget .0 - price (written value) }) atom
+    pub stands : atom .places ≡ placesAt (length before) (written value)
     pub carries :
         Carries (around before after value)
         (atomScratch way (around before after value) (length before) budget scratch) atom value
