@@ -219,7 +219,7 @@ pub float-words : (way : Way) (s : List ℕ) (place : ℕ) (budget : Budget) (sc
     (p : Place) (b : Budget) (kind : Kind) (arg : ℕ) (places : Places) (x : Float) (stored : ℕ) →
     arg < 2 ^ 64 → atomRead way s place budget scratch ≡ A.Read p b (atomOf kind arg places (N.Float x stored)) →
     (saidAtom (atomRead way s place budget scratch)
-    ≡ atomSaid (p .0) (b .0) (kindCode kind) arg (floatWords arg x stored) places)
+    ≡ atomSaid (p .0) (b .0) (kindCode kind) arg (floatWords arg x stored) (places .first .0) (places .body .0))
     × Means arg x (floatWords arg x stored)
 unfolding saidAtom
 float-words way s place budget scratch fits p b kind arg places x stored word e =

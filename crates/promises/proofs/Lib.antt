@@ -20,7 +20,6 @@ pub mod Recast
 pub mod Exports
 pub mod Laid
 pub mod FloatWords
-pub mod PlaceWords
 pub mod Exactly
 pub mod Filled
 pub mod Held
@@ -28,6 +27,7 @@ pub mod Demand1
 pub mod Entries
 pub mod Runs
 pub mod Stands
+pub mod PlaceWords
 pub mod Alone
 pub mod IntegerCasts
 pub mod Compared

@@ -134,14 +134,16 @@ nucleusWords arg N.DynamicEnd = record { case = 8; first = 0; second = 0; third 
 
 -- ---- the answers
 
--- one atom: place, budget; kind, argument and what it holds, and its places; or the refusal's data
-abbrev pub atomSaid : ℕ → ℕ → ℕ → ℕ → NucleusWords → Places → Said
-atomSaid place budget kind arg w places =
-    saysAt 0 place budget kind arg (w .case) (w .first) (w .second) (w .third) places
+-- one atom: place, budget; kind, argument and what it holds; where it starts and where its body does, and the place
+-- after it, which is the place of the answer. Or the refusal's data.
+abbrev pub atomSaid : ℕ → ℕ → ℕ → ℕ → NucleusWords → ℕ → ℕ → Said
+atomSaid place budget kind arg w first body =
+    laid 0 place budget kind arg (w .case) (w .first) (w .second) (w .third) first body place
 
 unfoldable pub saidAtom : AtomAnswer → Said
 saidAtom (A.Read p b x) =
-    atomSaid (p .0) (b .0) (kindCode (x .kind)) (x .arg) (nucleusWords (x .arg) (x .nucleus)) (x .places)
+    atomSaid (p .0) (b .0) (kindCode (x .kind)) (x .arg) (nucleusWords (x .arg) (x .nucleus)) (x .places .first .0)
+    (x .places .body .0)
 saidAtom (A.Refused p b r) = says (refusalNumber r) (p .0) (b .0) (datum 0 r) (datum 1 r) 0 0 0 0
 
 -- one atom skipped: place, budget; where its body starts, 1 if it is a string, and its places; or the refusal's data
