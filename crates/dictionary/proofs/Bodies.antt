@@ -33,7 +33,7 @@ use Rattle.integer.specs.Integers.{integerBody}
 use Rattle.float.specs.Floats.{floatBody}
 use Rattle.atom.specs.Charges.{budgetAfter}
 use Rattle.atom.specs.Atoms.{judged, integerTaken, floatTaken, bytesTaken, bodyTaken, atomAfter}
-use Rattle.dictionary.specs.Steps.{forgotten, bodyPast, bodyAfter}
+use Rattle.dictionary.specs.Steps.{forgotten, bodyPast, bodyAfter, lean}
 
 -- a budget that a charge exceeds, and one that it does not
 over-at : (b : Budget) (c : ℕ) (r : Refusal) (t : Bool) → ltb (b .0) c ≡ t →
@@ -177,6 +177,22 @@ module _ (s : List ℕ) (arg : ℕ) (first next : Place) (budget : Budget) where
       ≡ bodyAfter (length s) kind arg (first .0) (next .0) (budget .0)
   after-header kind h =
       judged-after kind (bodyTaken W.ExactLent s kind arg first next []) _ _ refl refl (λ rest. taken-after rest kind h)
+
+-- what the loops are told does not depend on where the atom starts
+module _ (size first other at left : ℕ) (string : Bool) (len charge : ℕ) (why : Refusal) where
+  any-by : (allowed t u : Bool) → ltb left charge ≡ t → leb (at + len) size ≡ u →
+      lean (bodyPast size first at left string len charge allowed why)
+      ≡ lean (bodyPast size other at left string len charge allowed why)
+  unfolding bodyPast
+  any-by allowed true u a b = rw a refl
+  any-by false false u a b = rw a refl
+  any-by true false true a b = rw (a, b) refl
+  any-by true false false a b = rw (a, b) refl
+
+  pub any-first : (allowed : Bool) →
+      lean (bodyPast size first at left string len charge allowed why)
+      ≡ lean (bodyPast size other at left string len charge allowed why)
+  any-first allowed = any-by allowed (ltb left charge) (leb (at + len) size) refl refl
 
 -- a body that was passed: its charge was within the budget, it is known and whole
 pub record Passed (size first at left : ℕ) (string : Bool) (len charge : ℕ) (allowed : Bool) (place rest : ℕ)

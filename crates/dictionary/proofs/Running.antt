@@ -1,24 +1,24 @@
 -- The run's loop: what holds before each turn, what a turn keeps of it, and what the run answers at its ends.
-use mathlib.Core.Path.{_≡_, _∙_, sym}
+use mathlib.Core.Path.{_≡_, _∙_, sym, ap}
 use mathlib.Core.Bool.{Bool}
 use mathlib.Core.List.{List}
 use Prim.Native.Nat.{ℕ, _+_, _-_, _≤_, _<_}
 use native.Mathlib.Omega.{arith}
 use borrow.Author.Needs.{needs}
 use lib.ListN.{length}
-use Rattle.types.specs.Counters.{noPlaces}
+use Rattle.types.specs.Counters.{placesOf, noPlaces}
 use Rattle.types.specs.declared.Place.{Place}
 use Rattle.types.specs.declared.Places.{Places}
 use Rattle.types.specs.declared.Budget.{Budget}
 use Rattle.types.specs.declared.Refusal.{Refusal}
-use Rattle.types.specs.declared.Skipped.{Skipped}
-use Rattle.types.specs.declared.Skipped.the-variants as SK
+use Rattle.dictionary.specs.declared.Step.{Step}
+use Rattle.dictionary.specs.declared.Step.the-variants as ST
 use Rattle.types.specs.declared.Ran.{Ran}
 use Rattle.types.specs.declared.Ran.the-variants as RN
 use Rattle.dictionary.specs.declared.Short.the-variants as SH
-use Rattle.dictionary.specs.Steps.{skipped, shortStep}
+use Rattle.dictionary.specs.Steps.{stepped, shortStep}
 use Rattle.dictionary.specs.Runs.{runFrom, runAll}
-use Rattle.dictionary.proofs.Steps.{Past, Told, told, by-step, step-less}
+use Rattle.dictionary.proofs.Steps.{Past, told-refused, Told, told, by-step, step-less}
 use Rattle.dictionary.proofs.Shorts.{by-first, short-less}
 use Rattle.dictionary.proofs.Turns.{Walked, walk-begins, walk-on, walk-answers, run-on, run-stop, run-end}
 
@@ -38,8 +38,8 @@ running fuel s at x = runFrom fuel s at (record { 0 = x .left }) (x .atoms) (x .
 abbrev pub Running : List ℕ → Budget → ℕ → ℕ → ℕ → Places → Type 0
 Running s all atoms at left last = Walked running s (runAll s all) atoms at (holding left atoms last)
 
-pub run-begins : (s : List ℕ) (all : Budget) (last : Places) → last ≡ noPlaces → Running s all 0 0 (all .0) last
-run-begins s all last e = rw e (walk-begins running s (holding (all .0) 0 noPlaces))
+pub run-begins : (s : List ℕ) (all : Budget) → Running s all 0 0 (all .0) noPlaces
+run-begins s all = walk-begins running s (holding (all .0) 0 noPlaces)
 
 -- an atom passed, by the step or by its first byte
 abbrev Turns : List ℕ → ℕ → Budget → Place → Budget → Places → Bool → Type 0
@@ -57,24 +57,27 @@ turns s at left place rest places t h e all atoms last i =
 pub short-turn : Told shortStep SH.Past Turns
 short-turn = told shortStep SH.Past by-first Turns turns
 
-pub turn : Told skipped SK.Past Turns
-turn = told skipped SK.Past by-step Turns turns
+pub turn : Told stepped ST.Past Turns
+turn = told stepped ST.Past by-step Turns turns
 
 module _ (s : List ℕ) (all : Budget) (atoms : ℕ) (at : Place) (left : Budget) (last : Places)
     (i : Running s all atoms (at .0) (left .0) last)
   where
     -- refused by the step
-    pub stops : (r : Skipped) (place : Place) (rest : Budget) (why : Refusal) → at .0 < length s →
-        r ≡ skipped s (at .0) left → r ≡ SK.Refused place rest why →
-        RN.Stopped place rest atoms last why at ≡ runAll s all
-    stops r place rest why h q p =
-        walk-answers running s _ atoms (at .0) _ i _
-        (λ fuel later k. run-stop s fuel later (at .0) left atoms last k place rest why h (sym q ∙ p))
+    pub stops : (r : Step) (places : Places) (place : Place) (rest : Budget) (why : Refusal) → places ≡ last →
+        at .0 < length s → r ≡ stepped s (at .0) left → r ≡ ST.Refused place rest why →
+        RN.Stopped place rest atoms places why at ≡ runAll s all
+    stops r places place rest why e h q p =
+        ap (λ (x : Places). RN.Stopped place rest atoms x why at) e
+        ∙ walk-answers running s _ atoms (at .0) _ i _
+        (λ fuel later k. run-stop s fuel later (at .0) left atoms last k place rest why h
+        (told-refused s (at .0) left place rest why (sym q ∙ p)))
 
     -- the end of the file
-    pub run-ends : length s ≤ at .0 → RN.Done at left atoms last ≡ runAll s all
-    run-ends h =
-        walk-answers running s _ atoms (at .0) _ i _
+    pub run-ends : (places : Places) → places ≡ last → length s ≤ at .0 → RN.Done at left atoms places ≡ runAll s all
+    run-ends places e h =
+        ap (RN.Done at left atoms) e
+        ∙ walk-answers running s _ atoms (at .0) _ i _
         (λ fuel later k. run-end s fuel later (at .0) left atoms last k h)
 
 pub ruleset run-laws = (run-begins, short-turn, turn, short-less, step-less, stops, run-ends, needs)

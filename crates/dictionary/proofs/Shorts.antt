@@ -10,27 +10,26 @@ use lib.Seq.{drop-cons}
 use borrow.Author.Needs.{needs}
 use borrow.Author.Tests.{ltb-true, ltb-false, eq-eqb, ne-eqb}
 use Rattle.types.specs.Choice.{pick}
-use Rattle.types.specs.Counters.{placesOf}
 use Rattle.types.specs.Kinds.{kindFrom, kindKnown}
 use Rattle.types.specs.Forms.{listed, allowedCount, numberCharge, known, bodyLength, chargeOf, isString, unknown}
 use Rattle.types.specs.declared.Kind.{Kind}
 use Rattle.types.specs.declared.Kind.the-variants as K
 use Rattle.types.specs.declared.Place.{Place}
-use Rattle.types.specs.declared.Places.{Places}
 use Rattle.types.specs.declared.Budget.{Budget}
 use Rattle.types.specs.declared.Refusal.{Refusal}
 use Rattle.types.specs.declared.Refusal.the-variants as R
 use Rattle.types.specs.declared.BudgetAnswer.{BudgetAnswer}
 use Rattle.types.specs.declared.BudgetAnswer.the-variants as BA
-use Rattle.types.specs.declared.Skipped.{Skipped}
-use Rattle.types.specs.declared.Skipped.the-variants as SK
+use Rattle.dictionary.specs.declared.Step.{Step}
+use Rattle.dictionary.specs.declared.Step.the-variants as ST
 use Rattle.header.specs.Header.{moreFollow, headerKind, headerArgument, headerLength}
 use Rattle.header.proofs.Answers.{one-length, one-argument}
 use Rattle.atom.specs.Charges.{budgetAfter}
 use Rattle.dictionary.specs.declared.Short.{Short}
 use Rattle.dictionary.specs.declared.Short.the-variants as SH
-use Rattle.dictionary.specs.Steps.{skipped, bodyPast, bodyAfter, pastAlone, shortByte, shortStep}
-use Rattle.dictionary.proofs.Bodies.{over, afforded, past-over, past-eof, past-whole}
+use Rattle.dictionary.specs.Steps.{skipped, bodyPast, bodyAfter, lean, stepped, bodyStep, pastAlone, shortByte}
+use Rattle.dictionary.specs.Steps.{shortStep}
+use Rattle.dictionary.proofs.Bodies.{over, afforded, past-over, past-eof, past-whole, any-first}
 use Rattle.dictionary.proofs.Steps.{step-body, Told, Telling, told, Starts, Inside, Falls, Less}
 use Rattle.dictionary.proofs.Steps.{starts, inside, falls, less}
 
@@ -38,31 +37,37 @@ use Rattle.dictionary.proofs.Steps.{starts, inside, falls, less}
 module _ (size : ℕ) (at : Place) (left : Budget) (string : Bool) (len charge : ℕ) where
   -- its bytes are cut: it is refused, for that or for its charge
   cut-at : (t : Bool) → ltb (left .0) charge ≡ t → size < at .0 + 1 + len →
-      SH.Other ≡ pastAlone (bodyPast size (at .0) (at .0 + 1) (left .0) string len charge true R.Eof)
+      SH.Other ≡ pastAlone (bodyStep size (at .0 + 1) (left .0) string len charge true R.Eof)
   cut-at true e h =
-      cc (past-over size (at .0) (at .0 + 1) (left .0) string len charge R.Eof true (ltb-true (left .0) charge e))
+      cc (ap lean (past-over size (at .0 + 1) (at .0 + 1) (left .0) string len charge R.Eof true
+      (ltb-true (left .0) charge e)))
   cut-at false e h =
-      cc (past-eof size (at .0) (at .0 + 1) (left .0) string len charge R.Eof (ltb-false (left .0) charge e) h)
+      cc (ap lean (past-eof size (at .0 + 1) (at .0 + 1) (left .0) string len charge R.Eof
+      (ltb-false (left .0) charge e) h))
 
   module _ (within : at .0 < size) where
     pub short-cut : size - (at .0 + 1) < len →
-        SH.Other ≡ pastAlone (bodyPast size (at .0) (at .0 + 1) (left .0) string len charge true R.Eof)
+        SH.Other ≡ pastAlone (bodyStep size (at .0 + 1) (left .0) string len charge true R.Eof)
     short-cut h = cut-at (ltb (left .0) charge) refl (omega arith)
 
     -- they are there: its charge exceeds the budget, or does not
     module _ (h : len ≤ size - (at .0 + 1)) (paid : BudgetAnswer) (p : paid ≡ budgetAfter left charge) where
       pub short-dear : (r : Refusal) → paid ≡ BA.Refused r →
-          SH.Other ≡ pastAlone (bodyPast size (at .0) (at .0 + 1) (left .0) string len charge true R.Eof)
+          SH.Other ≡ pastAlone (bodyStep size (at .0 + 1) (left .0) string len charge true R.Eof)
       short-dear r e =
-          cc (past-over size (at .0) (at .0 + 1) (left .0) string len charge R.Eof true (over left charge r (sym p ∙ e)))
+          cc (ap lean (past-over size (at .0 + 1) (at .0 + 1) (left .0) string len charge R.Eof true
+          (over left charge r (sym p ∙ e))))
 
       pub short-whole : (rest : Budget) → paid ≡ BA.Left rest →
-          SH.Past (record { 0 = at .0 + 1 + len }) rest
-          (placesOf at (record { 0 = at .0 + 1 }) (record { 0 = at .0 + 1 + len })) string
-          ≡ pastAlone (bodyPast size (at .0) (at .0 + 1) (left .0) string len charge true R.Eof)
+          SH.Past (record { 0 = at .0 + 1 + len }) rest (record { 0 = at .0 + 1 }) string
+          ≡ pastAlone (bodyStep size (at .0 + 1) (left .0) string len charge true R.Eof)
       short-whole rest e =
           let b = afforded left charge rest (sym p ∙ e) in
-          cc (b .1, past-whole size (at .0) (at .0 + 1) (left .0) string len charge R.Eof (b .0) (omega arith))
+          cc (
+            b .1,
+            ap lean (past-whole size (at .0 + 1) (at .0 + 1) (left .0) string len charge R.Eof (b .0)
+                (omega arith)),
+          )
 
 pub ruleset short-body-ends = (short-cut, short-dear, short-whole, needs)
 
@@ -96,20 +101,23 @@ module _ (s : List ℕ) (at : ℕ) (left : Budget) (within : at < length s) wher
       moreFollow (getD s at 0) ≡ false → kindKnown (kindFrom (getD s at 0 / 32)) ≡ kind →
       known kind (getD s at 0 % 16) ≡ true → bodyLength kind (getD s at 0 % 16) ≡ count →
       chargeOf kind (getD s at 0 % 16) ≡ charge → isString kind ≡ string →
-      answer ≡ pastAlone (bodyPast (length s) at (at + 1) (left .0) string count charge true R.Eof) →
+      answer ≡ pastAlone (bodyStep (length s) (at + 1) (left .0) string count charge true R.Eof) →
       answer ≡ shortStep s at left
-  unfolding shortStep
+  unfolding shortStep stepped
   short-of kind string count charge answer short m k known-is long costs is-string e =
       let same =
       known-any (length s) at (at + 1) (left .0) (isString kind) (bodyLength kind (getD s at 0 % 16))
       (chargeOf kind (getD s at 0 % 16)) (known kind (getD s at 0 % 16)) (unknown kind (getD s at 0 % 16)) R.Eof
       known-is
       in
-      cc (alone m, same)
+      let told =
+      any-first (length s) at (at + 1) (at + 1) (left .0) string count charge R.Eof true
+      in
+      cc (ap lean (alone m), ap lean same)
 
   -- a UInt of one byte
   pub short-uint : (charge : ℕ) (answer : Short) → getD s at 0 ≡ 0x40 → charge ≡ numberCharge 1 →
-      answer ≡ pastAlone (bodyPast (length s) at (at + 1) (left .0) false 1 charge true R.Eof) →
+      answer ≡ pastAlone (bodyStep (length s) (at + 1) (left .0) false 1 charge true R.Eof) →
       answer ≡ shortStep s at left
   short-uint charge answer b c e =
       short-of K.UInt false 1 charge answer (ap shortByte b) (ap moreFollow b)
@@ -119,7 +127,7 @@ module _ (s : List ℕ) (at : ℕ) (left : Budget) (within : at < length s) wher
   -- a string
   pub short-string : (answer : Short) → getD s at 0 / 16 ≡ 14 →
       answer
-      ≡ pastAlone (bodyPast (length s) at (at + 1) (left .0) true (getD s at 0 % 16) (getD s at 0 % 16) true R.Eof) →
+      ≡ pastAlone (bodyStep (length s) (at + 1) (left .0) true (getD s at 0 % 16) (getD s at 0 % 16) true R.Eof) →
       answer ≡ shortStep s at left
   short-string answer b e =
       let seven : getD s at 0 / 32 ≡ 7 = omega arith in
@@ -130,7 +138,7 @@ module _ (s : List ℕ) (at : ℕ) (left : Budget) (within : at < length s) wher
 
   -- a sequence
   pub short-sequence : (answer : Short) → getD s at 0 / 16 ≡ 8 →
-      answer ≡ pastAlone (bodyPast (length s) at (at + 1) (left .0) false 0 0 true R.Eof) → answer ≡ shortStep s at left
+      answer ≡ pastAlone (bodyStep (length s) (at + 1) (left .0) false 0 0 true R.Eof) → answer ≡ shortStep s at left
   short-sequence answer b e =
       let four : getD s at 0 / 32 ≡ 4 = omega arith in
       let other : getD s at 0 ≡ 0x40 → ⊥ = λ x. omega arith in
@@ -146,15 +154,15 @@ module _ (s : List ℕ) (at : ℕ) (left : Budget) (within : at < length s) wher
 pub ruleset short-ends = (short-uint, short-string, short-sequence, not-short, needs)
 
 -- what was passed so, the step passes
-past-at : (place : Place) (rest : Budget) (places : Places) (t u : Bool) (step : Skipped) →
-    pick u (pastAlone step) SH.Other ≡ SH.Past place rest places t → step ≡ SK.Past place rest places t
-past-at place rest places t true (SK.Past p b q v) e = cc
-past-at place rest places t true (SK.Refused p b r) e = absurd (false≢true cc)
-past-at place rest places t false step e = absurd (false≢true cc)
+past-at : (place : Place) (rest : Budget) (body : Place) (t u : Bool) (step : Step) →
+    pick u (pastAlone step) SH.Other ≡ SH.Past place rest body t → step ≡ ST.Past place rest body t
+past-at place rest body t true (ST.Past p b q v) e = cc
+past-at place rest body t true (ST.Refused p b r) e = absurd (false≢true cc)
+past-at place rest body t false step e = absurd (false≢true cc)
 
 pub by-first : Telling shortStep SH.Past
 unfolding shortStep
-by-first s at left place rest places t e = past-at place rest places t (shortByte (getD s at 0)) (skipped s at left) e
+by-first s at left place rest body t e = past-at place rest body t (shortByte (getD s at 0)) (stepped s at left) e
 
 -- so the loops have of it what they have of a step
 pub short-starts : Told shortStep SH.Past Starts

@@ -10,7 +10,8 @@ use lib.ListN.{length, drop}
 use borrow.Author.Tests.{le-ltb, le-leb, lt-leb, leb-true, leb-false, eqb-true}
 use Rattle.types.specs.Choice.{pick}
 use Rattle.types.specs.Counters.{placesOf}
-use Rattle.types.specs.Forms.{countOf, numberCharge, bodyLength, chargeOf}
+use Rattle.types.specs.Forms.{countOf, numberCharge, known, bodyLength, chargeOf, isString, unknown}
+use Rattle.types.specs.declared.Way.{Way}
 use Rattle.types.specs.declared.Way.the-variants as W
 use Rattle.types.specs.declared.Kind.{Kind}
 use Rattle.types.specs.declared.Kind.the-variants as K
@@ -18,15 +19,32 @@ use Rattle.types.proofs.Counters.{place-same}
 use Rattle.types.specs.declared.Place.{Place}
 use Rattle.types.specs.declared.Places.{Places}
 use Rattle.types.specs.declared.Budget.{Budget}
+use Rattle.types.specs.declared.Refusal.{Refusal}
 use Rattle.types.specs.declared.Refusal.the-variants as R
+use Rattle.types.specs.declared.IntegerAnswer.{IntegerAnswer}
+use Rattle.types.specs.declared.IntegerAnswer.the-variants as IA
+use Rattle.types.specs.declared.FloatAnswer.{FloatAnswer}
+use Rattle.types.specs.declared.FloatAnswer.the-variants as FA
+use Rattle.types.specs.declared.BytesAnswer.{BytesAnswer}
+use Rattle.types.specs.declared.BytesAnswer.the-variants as B
+use Rattle.types.specs.declared.BudgetAnswer.{BudgetAnswer}
+use Rattle.types.specs.declared.BudgetAnswer.the-variants as BA
+use Rattle.types.specs.declared.AtomAnswer.{AtomAnswer}
+use Rattle.types.specs.declared.AtomAnswer.the-variants as A
 use Rattle.types.specs.declared.HeaderAnswer.{HeaderAnswer}
 use Rattle.types.specs.declared.HeaderAnswer.the-variants as H
 use Rattle.types.specs.declared.Skipped.{Skipped}
 use Rattle.types.specs.declared.Skipped.the-variants as SK
 use Rattle.header.specs.Header.{headerFrom, headerRead, headerKind, headerArgument, headerLength}
 use Rattle.header.proofs.Fewest.{length-bounds}
-use Rattle.atom.specs.Atoms.{atomRead, atomFrom, atomAfter, firstPlace}
-use Rattle.dictionary.specs.Steps.{forgotten, skipped, bodyAfter}
+use Rattle.reader.specs.Strings.{stringAnswer}
+use Rattle.integer.specs.Integers.{integerBody}
+use Rattle.float.specs.Floats.{floatBody}
+use Rattle.atom.specs.Charges.{budgetAfter}
+use Rattle.atom.specs.Atoms.{integerAtom, floatAtom, bytesAtom, bodyTaken, charged, judged, atomRead, atomFrom}
+use Rattle.atom.specs.Atoms.{atomAfter, firstPlace}
+use Rattle.dictionary.specs.declared.Step.the-variants as ST
+use Rattle.dictionary.specs.Steps.{forgotten, skipped, bodyAfter, lean, stepped}
 use Rattle.dictionary.specs.Runs.{unlimited}
 use Rattle.dictionary.proofs.Bodies.{after-header, Passed, passed}
 
@@ -140,29 +158,117 @@ module _ (s : List ℕ) (at : ℕ) (within : at ≤ length s) (budget : Budget) 
   pub forward : Past s at budget place rest places t → Forward s at (budget .0) (place .0) (rest .0) places
   forward e = forward-at (leb (at + headerLength (drop at s)) (length s)) refl e
 
--- what the loops are told of a step that passed an atom, by `skip_atom` or by the first byte alone, and what follows of
--- it
-abbrev pub Told : {X : Type 0} → (List ℕ → ℕ → Budget → X) → (Place → Budget → Places → Bool → X) →
+-- EVERY ATOM THAT IS READ CARRIES ITS FIRST PLACE AND THE PLACE AFTER IT
+abbrev Placed : Place → AtomAnswer → Type 0
+Placed first (A.Read after rest atom) = atom .places ≡ placesOf first (atom .places .body) after
+Placed first (A.Refused after rest r) = Unit {0}
+
+module _ (way : Way) (s : List ℕ) (first next : Place) (arg : ℕ) (scratch : List ℕ) where
+  integer-placed : (kind : Kind) (rest : Budget) (a : IntegerAnswer) →
+      Placed first (integerAtom kind arg first next rest a)
+  integer-placed kind rest (IA.Read p v) = refl
+  integer-placed kind rest (IA.Refused p r) = tt
+
+  float-placed : (rest : Budget) (a : FloatAnswer) → Placed first (floatAtom arg first next rest a)
+  float-placed rest (FA.Read p v bits) = refl
+  float-placed rest (FA.Refused p r) = tt
+
+  bytes-placed : (rest : Budget) (a : BytesAnswer) → Placed first (bytesAtom arg first next rest a)
+  bytes-placed rest (B.Read p m) = refl
+  bytes-placed rest (B.Refused p r) = tt
+
+  taken-placed : (kind : Kind) (rest : Budget) → Placed first (bodyTaken way s kind arg first next scratch rest)
+  taken-placed K.Special rest = refl
+  taken-placed K.Int rest = integer-placed K.Int rest (integerBody way s (next .0) K.Int (bodyLength K.Int arg))
+  taken-placed K.UInt rest = integer-placed K.UInt rest (integerBody way s (next .0) K.UInt (bodyLength K.UInt arg))
+  taken-placed K.Float rest = float-placed rest (floatBody way s (next .0) (bodyLength K.Float arg))
+  taken-placed K.Sequence rest = refl
+  taken-placed K.Map rest = refl
+  taken-placed K.Symbol rest = refl
+  taken-placed K.Bytes rest = bytes-placed rest (stringAnswer way s (next .0) (bodyLength K.Bytes arg) scratch)
+
+  charged-placed : (kind : Kind) (budget : Budget) (paid : BudgetAnswer) (k : Bool) (r : Refusal) →
+      Placed first
+      (charged next budget paid
+      (λ rest. pick k (bodyTaken way s kind arg first next scratch rest) (A.Refused next rest r)))
+  charged-placed kind budget (BA.Left rest) true r = taken-placed kind rest
+  charged-placed kind budget (BA.Left rest) false r = tt
+  charged-placed kind budget (BA.Refused q) k r = tt
+
+from-placed : (way : Way) (s : List ℕ) (first : Place) (budget : Budget) (scratch : List ℕ) (h : HeaderAnswer) →
+    Placed first (atomFrom way s first budget scratch h)
+unfolding judged
+from-placed way s first budget scratch (H.Read next kind arg) =
+    charged-placed way s first next arg scratch kind budget (budgetAfter budget (chargeOf kind arg)) (known kind arg)
+    (unknown kind arg)
+from-placed way s first budget scratch (H.Refused p r) = tt
+
+atom-placed : (way : Way) (s : List ℕ) (place : ℕ) (budget : Budget) (scratch : List ℕ) →
+    Placed (firstPlace s place) (atomRead way s place budget scratch)
+unfolding atomRead
+atom-placed way s place budget scratch =
+    from-placed way s (firstPlace s place) budget scratch (headerRead way s place)
+
+-- so has the step, and the loops need not be told of it
+past-lean : (first : Place) (a : AtomAnswer) → Placed first a → (place : Place) (rest : Budget) (body : Place) (t : Bool) →
+    lean (forgotten a) ≡ ST.Past place rest body t → forgotten a ≡ SK.Past place rest (placesOf first body place) t
+past-lean first (A.Read p b x) stand place rest body t e =
+    let u : p ≡ place = cc in
+    let v : b ≡ rest = cc in
+    let w : x .places .body ≡ body = cc in
+    let y : isString (x .kind) ≡ t = cc in
+    cc
+past-lean first (A.Refused p b r) stand place rest body t e = absurd (false≢true cc)
+
+refused-lean : (k : Skipped) (place : Place) (rest : Budget) (why : Refusal) → lean k ≡ ST.Refused place rest why →
+    k ≡ SK.Refused place rest why
+refused-lean (SK.Past p b q v) place rest why e = absurd (false≢true cc)
+refused-lean (SK.Refused p b r) place rest why e = cc
+
+module _ (s : List ℕ) (place : ℕ) (budget : Budget) where
+  pub told-past : (after : Place) (rest : Budget) (body : Place) (t : Bool) →
+      stepped s place budget ≡ ST.Past after rest body t →
+      skipped s place budget ≡ SK.Past after rest (placesOf (firstPlace s place) body after) t
+  unfolding stepped skipped
+  told-past after rest body t e =
+      past-lean (firstPlace s place) (atomRead W.ExactLent s place budget [])
+      (atom-placed W.ExactLent s place budget []) after rest body t e
+
+  pub told-refused : (end : Place) (rest : Budget) (why : Refusal) →
+      stepped s place budget ≡ ST.Refused end rest why → skipped s place budget ≡ SK.Refused end rest why
+  unfolding stepped
+  told-refused end rest why e = refused-lean (skipped s place budget) end rest why e
+
+-- what the loops are told of a step that passed an atom, by `step_atom` or by the first byte alone, and what follows of
+-- it: the atom stands from where the loop was, over its body, to the place after it
+abbrev pub Told : {X : Type 0} → (List ℕ → ℕ → Budget → X) → (Place → Budget → Place → Bool → X) →
     (List ℕ → ℕ → Budget → Place → Budget → Places → Bool → Type 0) → Type 0
 Told {X} step past P =
-    (s : List ℕ) (at : ℕ) (left : Budget) (r : X) (place : Place) (rest : Budget) (places : Places) (t : Bool) →
-    r ≡ step s at left → r ≡ past place rest places t → at < length s → P s at left place rest places t
+    (s : List ℕ) (at : Place) (left : Budget) (r : X) (place : Place) (rest : Budget) (body : Place) (t : Bool) →
+    r ≡ step s (at .0) left → r ≡ past place rest body t → at .0 < length s →
+    P s (at .0) left place rest (placesOf at body place) t
 
-abbrev pub Telling : {X : Type 0} → (List ℕ → ℕ → Budget → X) → (Place → Budget → Places → Bool → X) → Type 0
+abbrev pub Telling : {X : Type 0} → (List ℕ → ℕ → Budget → X) → (Place → Budget → Place → Bool → X) → Type 0
 Telling step past =
-    (s : List ℕ) (at : ℕ) (left : Budget) (place : Place) (rest : Budget) (places : Places) (t : Bool) →
-    step s at left ≡ past place rest places t → skipped s at left ≡ SK.Past place rest places t
+    (s : List ℕ) (at : ℕ) (left : Budget) (place : Place) (rest : Budget) (body : Place) (t : Bool) →
+    step s at left ≡ past place rest body t → stepped s at left ≡ ST.Past place rest body t
 
-pub told : {X : Type 0} (step : List ℕ → ℕ → Budget → X) (past : Place → Budget → Places → Bool → X) →
+pub told : {X : Type 0} (step : List ℕ → ℕ → Budget → X) (past : Place → Budget → Place → Bool → X) →
     Telling step past → (P : List ℕ → ℕ → Budget → Place → Budget → Places → Bool → Type 0) →
     ((s : List ℕ) (at : ℕ) (left : Budget) (place : Place) (rest : Budget) (places : Places) (t : Bool) →
     at < length s → Past s at left place rest places t → P s at left place rest places t) →
     Told step past P
-told step past telling P f s at left r place rest places t q p h =
-    f s at left place rest places t h (record { is = telling s at left place rest places t (sym q ∙ p) })
+told step past telling P f s at left r place rest body t q p h =
+    f s (at .0) left place rest (placesOf at body place) t h (record { is = all })
+  where
+    all : skipped s (at .0) left ≡ SK.Past place rest (placesOf at body place) t
+    all =
+        told-past s (at .0) left place rest body t (telling s (at .0) left place rest body t (sym q ∙ p))
+        ∙ ap (λ (n : ℕ). SK.Past place rest (placesOf (record { 0 = n }) body place) t)
+        (place-same (length s) (at .0) (omega arith))
 
-pub by-step : Telling skipped SK.Past
-by-step s at left place rest places t e = e
+pub by-step : Telling stepped ST.Past
+by-step s at left place rest body t e = e
 
 -- the body starts before its end, and both are within the source; the budget never rises, and fewer bytes are left
 abbrev pub Starts : List ℕ → ℕ → Budget → Place → Budget → Places → Bool → Type 0
@@ -194,14 +300,14 @@ module _ (s : List ℕ) (at : ℕ) (left : Budget) (place : Place) (rest : Budge
   pub less : Less s at left place rest places t
   less = let w = went in omega arith
 
-pub step-starts : Told skipped SK.Past Starts
-step-starts = told skipped SK.Past by-step Starts starts
+pub step-starts : Told stepped ST.Past Starts
+step-starts = told stepped ST.Past by-step Starts starts
 
-pub step-inside : Told skipped SK.Past Inside
-step-inside = told skipped SK.Past by-step Inside inside
+pub step-inside : Told stepped ST.Past Inside
+step-inside = told stepped ST.Past by-step Inside inside
 
-pub step-falls : Told skipped SK.Past Falls
-step-falls = told skipped SK.Past by-step Falls falls
+pub step-falls : Told stepped ST.Past Falls
+step-falls = told stepped ST.Past by-step Falls falls
 
-pub step-less : Told skipped SK.Past Less
-step-less = told skipped SK.Past by-step Less less
+pub step-less : Told stepped ST.Past Less
+step-less = told stepped ST.Past by-step Less less

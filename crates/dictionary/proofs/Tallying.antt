@@ -17,17 +17,17 @@ use Rattle.types.specs.declared.Places.{Places}
 use Rattle.types.specs.declared.Budget.{Budget}
 use Rattle.types.specs.declared.Refusal.{Refusal}
 use Rattle.types.specs.declared.Refusal.the-variants as R
-use Rattle.types.specs.declared.Skipped.{Skipped}
-use Rattle.types.specs.declared.Skipped.the-variants as SK
 use Rattle.types.specs.declared.Tallied.{Tallied}
 use Rattle.types.specs.declared.TallyAnswer.{TallyAnswer}
 use Rattle.types.specs.declared.TallyAnswer.the-variants as TA
 use Rattle.dictionary.specs.Letters.{letters}
+use Rattle.dictionary.specs.declared.Step.{Step}
+use Rattle.dictionary.specs.declared.Step.the-variants as ST
 use Rattle.dictionary.specs.declared.Short.the-variants as SH
-use Rattle.dictionary.specs.Steps.{skipped, shortStep}
+use Rattle.dictionary.specs.Steps.{stepped, shortStep}
 use Rattle.dictionary.specs.Runs.{tallied, tallyFrom, tallyAll, nothing, unlimited}
 use Rattle.dictionary.proofs.Steps.{Past, forward, went, Told, told, by-step, step-starts, step-inside}
-use Rattle.dictionary.proofs.Steps.{step-falls, step-less}
+use Rattle.dictionary.proofs.Steps.{step-falls, step-less, told-refused}
 use Rattle.dictionary.proofs.Shorts.{by-first, short-starts, short-inside, short-falls, short-less}
 use Rattle.dictionary.proofs.Turns.{Walked, walk-begins, walk-on, walk-answers, tally-on, tally-stop, tally-end}
 
@@ -50,13 +50,9 @@ pub record Tallying (s : List ℕ) (atoms body charge signs at : ℕ) (last : Pl
   pub costs : 3 * charge ≤ 4 * body
   pub lettered : signs ≤ at
 
-pub too-long : (s : List ℕ) (last : Places) → last ≡ noPlaces → 16_777_216 < length s →
-    TA.Refused last R.TooLong ≡ tallyAll s
-too-long s last e h = rw e (simp (lt-ltb _ _ h))
-
-pub tally-begins : (s : List ℕ) (last : Places) → last ≡ noPlaces → Tallying s 0 0 0 0 0 last
-tally-begins s last e = record {
-  walked = rw e (walk-begins tallying s (holding nothing noPlaces));
+pub tally-begins : (s : List ℕ) → Tallying s 0 0 0 0 0 noPlaces
+tally-begins s = record {
+  walked = walk-begins tallying s (holding nothing noPlaces);
   low = omega arith;
   costs = omega arith;
   lettered = omega arith;
@@ -150,17 +146,17 @@ module _ (s : List ℕ) (at : ℕ) (left : Budget) (place : Place) (rest : Budge
   tallies atoms body charge signs last i full n most e =
       passed s at left place rest places string h p full atoms body charge signs last i n most e
 
-pub body-fits : Told skipped SK.Past BodyFits
-body-fits = told skipped SK.Past by-step BodyFits fits-body
+pub body-fits : Told stepped ST.Past BodyFits
+body-fits = told stepped ST.Past by-step BodyFits fits-body
 
-pub charge-fits : Told skipped SK.Past ChargeFits
-charge-fits = told skipped SK.Past by-step ChargeFits fits-charge
+pub charge-fits : Told stepped ST.Past ChargeFits
+charge-fits = told stepped ST.Past by-step ChargeFits fits-charge
 
-pub letters-fit : Told skipped SK.Past LettersFit
-letters-fit = told skipped SK.Past by-step LettersFit fits-letters
+pub letters-fit : Told stepped ST.Past LettersFit
+letters-fit = told stepped ST.Past by-step LettersFit fits-letters
 
-pub step-tally : Told skipped SK.Past Tallies
-step-tally = told skipped SK.Past by-step Tallies tallies
+pub step-tally : Told stepped ST.Past Tallies
+step-tally = told stepped ST.Past by-step Tallies tallies
 
 pub short-body-fits : Told shortStep SH.Past BodyFits
 short-body-fits = told shortStep SH.Past by-first BodyFits fits-body
@@ -177,22 +173,23 @@ short-tally = told shortStep SH.Past by-first Tallies tallies
 module _ (s : List ℕ) (atoms body charge signs : ℕ) (at : Place) (last : Places)
     (i : Tallying s atoms body charge signs (at .0) last) where
   -- refused by the step
-  pub tally-stops : (r : Skipped) (end : Place) (rest : Budget) (why : Refusal) → at .0 < length s →
-      r ≡ skipped s (at .0) (record { 0 = unlimited }) → length s ≤ 16_777_216 → r ≡ SK.Refused end rest why →
-      TA.Stopped last why at ≡ tallyAll s
-  tally-stops r end rest why h q l p =
-      rw (le-ltb _ _ l)
-      (walk-answers tallying s _ atoms (at .0) _ (i .walked) _
-      (λ fuel later k. tally-stop s fuel later (at .0) _ last k end rest why h (sym q ∙ p)))
+  pub tally-stops : (answer : TallyAnswer) (r : Step) (end : Place) (rest : Budget) (why : Refusal) →
+      answer ≡ TA.Stopped last why at → at .0 < length s → r ≡ stepped s (at .0) (record { 0 = unlimited }) →
+      r ≡ ST.Refused end rest why → answer ≡ tallyFrom (suc (length s)) s 0 nothing noPlaces
+  tally-stops answer r end rest why e h q p =
+      e
+      ∙ walk-answers tallying s _ atoms (at .0) _ (i .walked) _
+      (λ fuel later k. tally-stop s fuel later (at .0) _ last k end rest why h
+      (told-refused s (at .0) (record { 0 = unlimited }) end rest why (sym q ∙ p)))
 
   -- the end of the file
-  pub tally-ends : (r : TallyAnswer) → length s ≤ 16_777_216 → length s ≤ at .0 →
-      r ≡ TA.Done last (tallied atoms body charge signs) → r ≡ tallyAll s
-  tally-ends r l h e =
+  pub tally-ends : (places : Places) (r : TallyAnswer) → r ≡ TA.Done places (tallied atoms body charge signs) →
+      places ≡ last → length s ≤ at .0 → r ≡ tallyFrom (suc (length s)) s 0 nothing noPlaces
+  tally-ends places r e l h =
       e
-      ∙ rw (le-ltb _ _ l)
-      (walk-answers tallying s _ atoms (at .0) _ (i .walked) _
-      (λ fuel later k. tally-end s fuel later (at .0) _ last k h))
+      ∙ ap (λ (x : Places). TA.Done x (tallied atoms body charge signs)) l
+      ∙ walk-answers tallying s _ atoms (at .0) _ (i .walked) _
+      (λ fuel later k. tally-end s fuel later (at .0) _ last k h)
 
 pub ruleset step-passed =
     (step-starts, step-inside, step-falls, step-less, body-fits, charge-fits, letters-fit, step-tally)
@@ -200,5 +197,14 @@ pub ruleset step-passed =
 pub ruleset short-passed =
     (short-starts, short-inside, short-falls, short-less, short-body-fits, short-charge-fits, short-letters-fit)
 
-pub ruleset tally-laws =
-    (too-long, tally-begins, short-passed, short-tally, step-passed, tally-stops, tally-ends, needs)
+pub ruleset tally-laws = (tally-begins, short-passed, short-tally, step-passed, tally-stops, tally-ends, needs)
+
+-- the length is judged before that
+module _ (s : List ℕ) (r : TallyAnswer) where
+  pub too-long : r ≡ TA.Refused noPlaces R.TooLong → 16_777_216 < length s → r ≡ tallyAll s
+  too-long e h = e ∙ simp (lt-ltb _ _ h)
+
+  pub not-too-long : r ≡ tallyFrom (suc (length s)) s 0 nothing noPlaces → length s ≤ 16_777_216 → r ≡ tallyAll s
+  not-too-long e h = e ∙ simp (le-ltb _ _ h)
+
+pub ruleset length-ends = (too-long, not-too-long, needs)

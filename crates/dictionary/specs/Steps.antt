@@ -18,6 +18,8 @@ use Rattle.types.specs.declared.AtomAnswer.the-variants as A
 use Rattle.types.specs.declared.Skipped.{Skipped}
 use Rattle.types.specs.declared.Skipped.the-variants as SK
 use Rattle.atom.specs.Atoms.{atomRead}
+use Rattle.dictionary.specs.declared.Step.{Step}
+use Rattle.dictionary.specs.declared.Step.the-variants as ST
 use Rattle.dictionary.specs.declared.Short.{Short}
 use Rattle.dictionary.specs.declared.Short.the-variants as SH
 
@@ -48,10 +50,26 @@ bodyAfter size kind arg first at left =
     bodyPast size first at left (isString kind) (bodyLength kind arg) (chargeOf kind arg) (known kind arg)
     (unknown kind arg)
 
+-- The step as the run and the tally are told of it: of the places the start of the body alone. The loops hold where the
+-- atom starts, and where it ends is the place.
+abbrev pub lean : Skipped → Step
+lean (SK.Past place rest places string) = ST.Past place rest (places .body) string
+lean (SK.Refused place rest r) = ST.Refused place rest r
+
+unfoldable pub stepped : List ℕ → ℕ → Budget → Step
+stepped source place budget = lean (skipped source place budget)
+
+-- what it is told of a body, which does not depend on where the atom starts
+abbrev pub bodyStep : ℕ → ℕ → ℕ → Bool → ℕ → ℕ → Bool → Refusal → Step
+bodyStep size at left string len charge allowed why = lean (bodyPast size at at left string len charge allowed why)
+
+abbrev pub stepAfter : ℕ → Kind → ℕ → ℕ → ℕ → Step
+stepAfter size kind arg at left = lean (bodyAfter size kind arg at at left)
+
 -- what a step tells of an atom that it goes past, and of no other
-abbrev pub pastAlone : Skipped → Short
-pastAlone (SK.Past place rest places string) = SH.Past place rest places string
-pastAlone (SK.Refused place rest r) = SH.Other
+abbrev pub pastAlone : Step → Short
+pastAlone (ST.Past place rest body string) = SH.Past place rest body string
+pastAlone (ST.Refused place rest r) = SH.Other
 
 -- the first bytes that are looked at: a UInt of one byte, a string or a sequence whose header is this byte alone
 abbrev pub shortByte : ℕ → Bool
@@ -59,4 +77,4 @@ shortByte b = pick (eqb b 0x40) true (pick (eqb (b / 16) 14) true (eqb (b / 16) 
 
 -- the step at such a byte
 unfoldable pub shortStep : List ℕ → ℕ → Budget → Short
-shortStep source at budget = pick (shortByte (getD source at 0)) (pastAlone (skipped source at budget)) SH.Other
+shortStep source at budget = pick (shortByte (getD source at 0)) (pastAlone (stepped source at budget)) SH.Other

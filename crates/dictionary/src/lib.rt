@@ -2,16 +2,16 @@
 // of reading" and "Tally"; document 02, K1.
 ghost use mathlib.Core.Path.{_≡_};
 ghost use mathlib.Core.Bool.{true, false};
-ghost use Prim.Native.Nat.{_≤_, _<_, _+_, _-_};
+ghost use Prim.Native.Nat.{suc, _≤_, _<_, _+_, _-_};
 ghost use lib.ListN.{length, take, drop};
 ghost use Rattle.types.specs.Choice.{pick};
-ghost use Rattle.types.specs.Counters.{noPlaces};
+ghost use Rattle.types.specs.Counters.{placesOf, noPlaces};
 ghost use Rattle.types.specs.Forms.{numberCharge, unsupported};
 ghost use Rattle.types.specs.declared.Refusal.the-variants as R;
 ghost use Rattle.types.specs.declared.TallyAnswer.the-variants as TA;
 ghost use Rattle.dictionary.specs.Letters.{letter, letters};
-ghost use Rattle.dictionary.specs.Steps.{skipped, bodyPast, bodyAfter, pastAlone, shortStep};
-ghost use Rattle.dictionary.specs.Runs.{runAll, tallied, tallyAll};
+ghost use Rattle.dictionary.specs.Steps.{skipped, stepped, bodyStep, stepAfter, pastAlone, shortStep};
+ghost use Rattle.dictionary.specs.Runs.{runAll, tallied, tallyFrom, nothing, tallyAll};
 use types::BodyBytes;
 use types::Budget;
 use types::BudgetAnswer;
@@ -28,10 +28,16 @@ use types::Tallied;
 use types::TallyAnswer;
 use types::Way;
 
-// What the run and the tally know of an atom by its first byte alone: what `skip_atom` answers of one that it goes
-// past, or nothing.
+// What the run and the tally are told of an atom: as the step that builds no value answers it, with the start of its body
+// alone of its places, since they hold the other two.
+enum Step {
+    Past(Place, Budget, Place, bool),
+    Refused(Place, Budget, Refusal),
+}
+
+// What they know of an atom by its first byte alone: what `step_atom` tells of one that it goes past, or nothing.
 enum Short {
-    Past(Place, Budget, Places, bool),
+    Past(Place, Budget, Place, bool),
     Other,
 }
 
@@ -41,103 +47,103 @@ fn skip_number(
     kind: Kind,
     count: u64,
     allowed: bool,
-    first: Place,
     at: Place,
     left: Budget,
-) -> Skipped
+) -> Step
     requires { ⌜ at .0 ≤ length (now source) ⌝ }
     ensures { λ r. ⌜ r ≡
-        bodyPast (length (now (source .entry))) (first .0) (at .0) (left .0) false count (numberCharge count) allowed
+        bodyStep (length (now (source .entry))) (at .0) (left .0) false count (numberCharge count) allowed
         (unsupported kind count) ⌝ }
 {
     let BudgetAnswer::Left(rest) = atom::update_budget(left, atom::in_memory_int_size(count)) else {
-        return Skipped::Refused(at, left, Refusal::TooManyBytesRead);
+        return Step::Refused(at, left, Refusal::TooManyBytesRead);
     };
     if allowed {
         let room = source.len() - at.0;
         if (room as u64) < count {
-            return Skipped::Refused(Place(source.len()), rest, Refusal::Eof);
+            return Step::Refused(Place(source.len()), rest, Refusal::Eof);
         }
-        let after = Place(at.0 + count as usize);
-        let places = Places {
-            first,
-            body: at,
-            after,
-        };
-        return Skipped::Past(after, rest, places, false);
+        return Step::Past(Place(at.0 + count as usize), rest, at, false);
     }
-    return Skipped::Refused(at, rest, Refusal::unsupported(kind, count));
+    return Step::Refused(at, rest, Refusal::unsupported(kind, count));
 }
 
 // A string's body.
-fn skip_bytes(source: &[u8], count: u64, first: Place, at: Place, left: Budget) -> Skipped
+fn skip_bytes(source: &[u8], count: u64, at: Place, left: Budget) -> Step
     requires { ⌜ at .0 ≤ length (now source) ⌝ }
-    ensures { λ r. ⌜ r ≡
-        bodyPast (length (now (source .entry))) (first .0) (at .0) (left .0) true count count true R.Eof ⌝ }
+    ensures { λ r. ⌜ r ≡ bodyStep (length (now (source .entry))) (at .0) (left .0) true count count true R.Eof ⌝ }
 {
     let BudgetAnswer::Left(rest) = atom::update_budget(left, count) else {
-        return Skipped::Refused(at, left, Refusal::TooManyBytesRead);
+        return Step::Refused(at, left, Refusal::TooManyBytesRead);
     };
     let room = source.len() - at.0;
     if (room as u64) < count {
-        return Skipped::Refused(Place(source.len()), rest, Refusal::Eof);
+        return Step::Refused(Place(source.len()), rest, Refusal::Eof);
     }
-    let after = Place(at.0 + count as usize);
-    let places = Places {
-        first,
-        body: at,
-        after,
-    };
-    return Skipped::Past(after, rest, places, true);
+    return Step::Past(Place(at.0 + count as usize), rest, at, true);
 }
 
 // What follows a header, by its kind.
-fn skip_body(source: &[u8], kind: Kind, arg: u64, first: Place, at: Place, left: Budget) -> Skipped
+fn skip_body(source: &[u8], kind: Kind, arg: u64, at: Place, left: Budget) -> Step
     requires { ⌜ at .0 ≤ length (now source) ⌝ }
-    ensures { λ r. ⌜ r ≡ bodyAfter (length (now (source .entry))) kind arg (first .0) (at .0) (left .0) ⌝ }
+    ensures { λ r. ⌜ r ≡ stepAfter (length (now (source .entry))) kind arg (at .0) (left .0) ⌝ }
 {
-    let alone = Places {
-        first,
-        body: at,
-        after: at,
-    };
     match kind {
-        Kind::Sequence => return Skipped::Past(at, left, alone, false),
-        Kind::Map => return Skipped::Past(at, left, alone, false),
-        Kind::Symbol => return Skipped::Past(at, left, alone, false),
+        Kind::Sequence => return Step::Past(at, left, at, false),
+        Kind::Map => return Step::Past(at, left, at, false),
+        Kind::Symbol => return Step::Past(at, left, at, false),
         Kind::Special => match Special::try_from(arg) {
             SpecialAnswer::Known(_) => {
-                return Skipped::Past(at, left, alone, false);
+                return Step::Past(at, left, at, false);
             }
             SpecialAnswer::Refused(refusal) => {
-                return Skipped::Refused(at, left, refusal);
+                return Step::Refused(at, left, refusal);
             }
         },
         Kind::Int | Kind::UInt => {
             let count = atom::count_of(arg);
-            let allowed = integer::allowed(count);
-            return skip_number(source, kind, count, allowed, first, at, left);
+            return skip_number(source, kind, count, integer::allowed(count), at, left);
         }
         Kind::Float => {
             let count = atom::count_of(arg);
-            let allowed = float::allowed(count);
-            return skip_number(source, kind, count, allowed, first, at, left);
+            return skip_number(source, kind, count, float::allowed(count), at, left);
         }
-        Kind::Bytes => return skip_bytes(source, arg, first, at, left),
+        Kind::Bytes => return skip_bytes(source, arg, at, left),
     }
+}
+
+// Reads an atom exactly, of which the run and the tally go on with what this tells.
+fn step_atom(source: &[u8], place: Place, budget: Budget) -> Step
+    ensures { λ r. ⌜ r ≡ stepped (now (source .entry)) (place .0) budget ⌝ }
+{
+    match header::read_atom_header(source, place, Way::ExactLent) {
+        HeaderAnswer::Read(next, kind, arg) => {
+            return skip_body(source, kind, arg, next, budget);
+        }
+        HeaderAnswer::Refused(end, refusal) => {
+            return Step::Refused(end, budget, refusal);
+        }
+    }
+}
+
+// Where an atom stands: its first place, the place where its body starts and the place after it.
+fn places_of(first: Place, body: Place, after: Place) -> Places
+    ensures { λ r. ⌜ r ≡ placesOf first body after ⌝ }
+{
+    Places { first, body, after }
 }
 
 // Reads an atom exactly and builds no value: `read_atom`, strings lent, with the value forgotten.
 pub fn skip_atom(source: &[u8], place: Place, budget: Budget) -> Skipped
     ensures { λ r. ⌜ r ≡ skipped (now (source .entry)) (place .0) budget ⌝ }
 {
-    match header::read_atom_header(source, place, Way::ExactLent) {
-        HeaderAnswer::Read(next, kind, arg) => {
+    match step_atom(source, place, budget) {
+        Step::Past(after, rest, body, string) => {
             let first = Place(place.within(source.len()));
-            return skip_body(source, kind, arg, first, next, budget);
+            return Skipped::Past(after, rest, places_of(first, body, after), string);
         }
-        HeaderAnswer::Refused(end, refusal) => {
-            return Skipped::Refused(end, budget, refusal);
+        Step::Refused(end, rest, refusal) => {
+            return Skipped::Refused(end, rest, refusal);
         }
     }
 }
@@ -152,8 +158,7 @@ fn short_body(
     string: bool,
 ) -> Short
     requires { ⌜ at .0 < size ⌝ }
-    ensures { λ r. ⌜ r ≡
-        pastAlone (bodyPast size (at .0) (at .0 + 1) (left .0) string (body .0) charge true R.Eof) ⌝ }
+    ensures { λ r. ⌜ r ≡ pastAlone (bodyStep size (at .0 + 1) (left .0) string (body .0) charge true R.Eof) ⌝ }
 {
     let from = at.0 + 1;
     if ((size - from) as u64) < body.0 {
@@ -162,16 +167,10 @@ fn short_body(
     let BudgetAnswer::Left(rest) = atom::update_budget(left, charge) else {
         return Short::Other;
     };
-    let after = Place(from + body.0 as usize);
-    let places = Places {
-        first: at,
-        body: Place(from),
-        after,
-    };
-    return Short::Past(after, rest, places, string);
+    return Short::Past(Place(from + body.0 as usize), rest, Place(from), string);
 }
 
-// An atom that the run and the tally pass without asking `skip_atom`: a UInt of one byte, a string or a sequence whose
+// An atom that the run and the tally pass without asking `step_atom`: a UInt of one byte, a string or a sequence whose
 // header is one byte, as nearly all of a dictionary's are. Each has the body and the charge of its kind.
 fn short_atom(source: &[u8], at: Place, left: Budget) -> Short
     requires { ⌜ at .0 < length (now source) ⌝ }
@@ -200,49 +199,42 @@ fn short_atom(source: &[u8], at: Place, left: Budget) -> Short
     return Short::Other;
 }
 
-// The last atom's places, before there is one.
-fn no_places() -> Places
-    ensures { λ r. ⌜ r ≡ noPlaces ⌝ }
-{
-    Places {
-        first: Place(0),
-        body: Place(0),
-        after: Place(0),
-    }
-}
-
-// Reads a file's atoms until its end or a refusal.
+// Reads a file's atoms until its end or a refusal. Of the last one it holds where it starts and where its body does: it
+// ends where the run stands.
 pub fn run(source: &[u8], budget: Budget) -> Ran
     ensures { λ r. ⌜ r ≡ runAll (now (source .entry)) budget ⌝ }
 {
     let mut atoms: u64 = 0;
+    let mut first = Place(0);
+    let mut body = Place(0);
     let mut at = Place(0);
     let mut left = budget;
-    let mut last = no_places();
     while at.0 < source.len() {
         match short_atom(source, at, left) {
-            Short::Past(end, rest, places, _) => {
+            Short::Past(end, rest, from, _) => {
                 atoms += 1;
+                first = at;
+                body = from;
                 at = end;
                 left = rest;
-                last = places;
                 continue;
             }
             Short::Other => {}
         }
-        match skip_atom(source, at, left) {
-            Skipped::Past(next, rest, places, _) => {
+        match step_atom(source, at, left) {
+            Step::Past(next, rest, from, _) => {
                 atoms += 1;
+                first = at;
+                body = from;
                 at = next;
                 left = rest;
-                last = places;
             }
-            Skipped::Refused(place, rest, refusal) => {
-                return Ran::Stopped(place, rest, atoms, last, refusal, at);
+            Step::Refused(place, rest, refusal) => {
+                return Ran::Stopped(place, rest, atoms, places_of(first, body, at), refusal, at);
             }
         }
     }
-    return Ran::Done(at, left, atoms, last);
+    return Ran::Done(at, left, atoms, places_of(first, body, at));
 }
 
 // 1 for a letter, else 0: a choice without a branch, so that a loop over it takes many bytes at a time.
@@ -310,56 +302,91 @@ fn letters_of(source: &[u8], from: Place, to: Place, string: bool) -> u64
 }
 
 // The answer of a tally that met the file's end.
-fn counted(last: Places, atoms: u64, body: BodyBytes, charge: u64, letters: u64) -> TallyAnswer
-    ensures { λ r. ⌜ r ≡ TA.Done last (tallied atoms (body .0) charge letters) ⌝ }
+fn counted(last: Places, atoms: u64, bytes: BodyBytes, charge: u64, letters: u64) -> TallyAnswer
+    ensures { λ r. ⌜ r ≡ TA.Done last (tallied atoms (bytes .0) charge letters) ⌝ }
 {
     let held = Tallied {
         atoms,
-        body,
+        body: bytes,
         charge,
         letters,
     };
     TallyAnswer::Done(last, held)
 }
 
-// Counts a file's atoms, body bytes, charges and letters, or refuses at the first bad atom. Each atom is read with the
-// largest budget, which no charge exceeds: what it takes of that is its charge.
-pub fn tally(source: &[u8]) -> TallyAnswer
-    ensures { λ r. ⌜ r ≡ tallyAll (now (source .entry)) ⌝ }
+// The answer of a tally that met a bad atom, which starts where the last good one ends.
+fn stopped(first: Place, body: Place, at: Place, refusal: Refusal) -> TallyAnswer
+    ensures { λ r. ⌜ r ≡ TA.Stopped (placesOf first body at) refusal at ⌝ }
 {
-    let mut last = no_places();
-    if 16_777_216 < source.len() {
-        return TallyAnswer::Refused(last, Refusal::TooLong);
-    }
-    let mut at = Place(0);
+    let last = Places {
+        first,
+        body,
+        after: at,
+    };
+    TallyAnswer::Stopped(last, refusal, at)
+}
+
+// The answer to an input that is too long, of which no atom was read.
+fn too_long() -> TallyAnswer
+    ensures { λ r. ⌜ r ≡ TA.Refused noPlaces R.TooLong ⌝ }
+{
+    let last = Places {
+        first: Place(0),
+        body: Place(0),
+        after: Place(0),
+    };
+    TallyAnswer::Refused(last, Refusal::TooLong)
+}
+
+// Counts the atoms of a file that is not too long. Each is read with the largest budget, which no charge exceeds: what it
+// takes of that is its charge. Of the last one it holds where it starts and where its body does, as the run.
+fn tally_within(source: &[u8]) -> TallyAnswer
+    requires { ⌜ length (now source) ≤ 16_777_216 ⌝ }
+    ensures { λ r. ⌜ r ≡ tallyFrom (suc (length (now (source .entry)))) (now (source .entry)) 0 nothing noPlaces ⌝ }
+{
     let mut atoms: u64 = 0;
-    let mut body = BodyBytes(0);
+    let mut bytes = BodyBytes(0);
     let mut charge: u64 = 0;
     let mut letters: u64 = 0;
+    let mut first = Place(0);
+    let mut body = Place(0);
+    let mut at = Place(0);
     while at.0 < source.len() {
         match short_atom(source, at, Budget(0xFFFF_FFFF_FFFF_FFFF)) {
-            Short::Past(end, rest, places, string) => {
+            Short::Past(end, rest, from, string) => {
                 atoms += 1;
-                letters += letters_of(source, places.body, end, string);
+                letters += letters_of(source, from, end, string);
                 charge += 0xFFFF_FFFF_FFFF_FFFF - rest.0;
-                body = BodyBytes(body.0 + (end.0 - places.body.0) as u64);
+                bytes = BodyBytes(bytes.0 + (end.0 - from.0) as u64);
+                first = at;
+                body = from;
                 at = end;
-                last = places;
                 continue;
             }
             Short::Other => {}
         }
-        match skip_atom(source, at, Budget(0xFFFF_FFFF_FFFF_FFFF)) {
-            Skipped::Past(place, rest, places, string) => {
+        match step_atom(source, at, Budget(0xFFFF_FFFF_FFFF_FFFF)) {
+            Step::Past(place, rest, from, string) => {
                 atoms += 1;
-                letters += letters_of(source, places.body, place, string);
+                letters += letters_of(source, from, place, string);
                 charge += 0xFFFF_FFFF_FFFF_FFFF - rest.0;
-                body = BodyBytes(body.0 + (place.0 - places.body.0) as u64);
+                bytes = BodyBytes(bytes.0 + (place.0 - from.0) as u64);
+                first = at;
+                body = from;
                 at = place;
-                last = places;
             }
-            Skipped::Refused(_, _, refusal) => return TallyAnswer::Stopped(last, refusal, at),
+            Step::Refused(_, _, refusal) => return stopped(first, body, at, refusal),
         }
     }
-    return counted(last, atoms, body, charge, letters);
+    return counted(places_of(first, body, at), atoms, bytes, charge, letters);
+}
+
+// Counts a file's atoms, body bytes, charges and letters, or refuses at the first bad atom.
+pub fn tally(source: &[u8]) -> TallyAnswer
+    ensures { λ r. ⌜ r ≡ tallyAll (now (source .entry)) ⌝ }
+{
+    if 16_777_216 < source.len() {
+        return too_long();
+    }
+    tally_within(source)
 }

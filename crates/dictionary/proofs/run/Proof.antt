@@ -2,15 +2,17 @@
 -- least, so that the bytes left are the measure.
 use Prim.Native.Nat.{_-_}
 use lib.ListN.{length}
+use Rattle.types.specs.Counters.{placesOf}
 use Rattle.dictionary.proofs.Running.{Running, run-laws}
 use Rattle.dictionary.proofs.run.Statement.{statement}
 use Rattle.dictionary.proofs.run.Tie as tie
 
 abbrev Inv-loop : tie.InvT-loop
-Inv-loop source atoms₀ at₀ left₀ last₀ atoms at left last = Running source left₀ atoms (at .0) (left .0) last
+Inv-loop source atoms₀ first₀ body₀ at₀ left₀ atoms first body at left =
+    Running source left₀ atoms (at .0) (left .0) (placesOf first body at)
 
 abbrev μ-loop : tie.MeasureT-loop
-μ-loop source atoms₀ at₀ left₀ last₀ atoms at left last = length source - at .0
+μ-loop source atoms₀ first₀ body₀ at₀ left₀ atoms first body at left = length source - at .0
 
 loop-again : tie.Need-loop-again Inv-loop μ-loop
 loop-again c = search run-laws
@@ -28,7 +30,7 @@ pub run-spec : {M : Type 1} → statement M
 run-spec =
     tie.close
     (tie.spec
-    Inv-loop μ-loop (λ c κs. search run-laws) (λ c. search run-laws) (λ c κs. search run-laws) (λ c. search run-laws)
-    (λ c. search run-laws) (λ c. search run-laws) loop-again (λ c. search run-laws) (λ c κs. search run-laws)
-    (λ c. search run-laws) (λ c. search run-laws) (λ c. search run-laws) loop-again-2 (λ c. search run-laws) returns
-    returns-2)
+    Inv-loop μ-loop (λ c. search run-laws) (λ c κs. search run-laws) (λ c. search run-laws) (λ c. search run-laws)
+    (λ c. search run-laws) loop-again (λ c. search run-laws) (λ c κs. search run-laws) (λ c. search run-laws)
+    (λ c. search run-laws) (λ c. search run-laws) loop-again-2 (λ c. search run-laws) (λ c κs. search run-laws) returns
+    (λ c κs. search run-laws) returns-2)
