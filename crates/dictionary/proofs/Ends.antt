@@ -5,7 +5,7 @@ use mathlib.Core.List.{List, [], _∷_}
 use Prim.Native.Nat.{ℕ, _+_, _-_, _≤_, _<_}
 use native.Mathlib.Omega.{arith}
 use borrow.Author.Needs.{needs}
-use borrow.Author.Tests.{lt-ltb}
+use borrow.Author.Tests.{lt-ltb, eq-eqb, ne-eqb}
 use lib.Dec.{ltb, leb}
 use lib.ListN.{length}
 use types.Run.{OneOf, miss}
@@ -30,6 +30,7 @@ use Rattle.types.specs.declared.BudgetAnswer.{BudgetAnswer}
 use Rattle.types.specs.declared.BudgetAnswer.the-variants as BA
 use Rattle.types.specs.declared.HeaderAnswer.{HeaderAnswer}
 use Rattle.types.specs.declared.HeaderAnswer.the-variants as H
+use Rattle.types.specs.declared.TallyAnswer.the-variants as TA
 use Rattle.types.specs.declared.Skipped.{Skipped}
 use Rattle.types.specs.declared.Skipped.the-variants as SK
 use Rattle.header.specs.Header.{headerRead}
@@ -40,7 +41,7 @@ use Rattle.atom.specs.Charges.{budgetAfter}
 use Rattle.atom.specs.Atoms.{atomRead, firstPlace}
 use Rattle.dictionary.specs.declared.Step.{Step}
 use Rattle.dictionary.specs.declared.Step.the-variants as ST
-use Rattle.dictionary.specs.Steps.{skipped, bodyPast, lean, stepped, bodyStep, stepAfter}
+use Rattle.dictionary.specs.Steps.{skipped, bodyPast, lean, stepped, bodyStep, stepAfter, lastOf}
 use Rattle.dictionary.proofs.Bodies.{over, afforded, past-over, past-unknown, past-eof, past-whole, header-only, special-past, special-other}
 use Rattle.dictionary.proofs.Bodies.{after-header, any-first}
 use Rattle.dictionary.proofs.Steps.{told-past, told-refused}
@@ -166,3 +167,25 @@ module _ (s : List ℕ) (place : ℕ) (budget : Budget) (got : Step) (g : got �
   skip-refused end rest why e = sym (told-refused s place budget end rest why (sym g ∙ e))
 
 pub ruleset skip-ends = (skip-past, skip-refused, needs)
+
+-- the ends of `last_places`: no atom was read, or the last one's header tells where its body starts
+module _ (s : List ℕ) (first at : Place) (places : Places) where
+  pub last-none : places ≡ placesOf first first first → first .0 ≡ at .0 → places ≡ lastOf s first at
+  last-none p e = p ∙ simp (eq-eqb _ _ e)
+
+  module _ (apart : first .0 ≡ at .0 → ⊥) (header : HeaderAnswer) (read : header ≡ headerRead W.ExactLent s (first .0))
+      (body : Place) (p : places ≡ placesOf first body at) where
+    pub last-read : (kind : Kind) (arg : ℕ) → header ≡ H.Read body kind arg → places ≡ lastOf s first at
+    last-read kind arg e = rw (ne-eqb _ _ apart, ← read, e) p
+
+    pub last-refused : (why : Refusal) → header ≡ H.Refused body why → places ≡ lastOf s first at
+    last-refused why e = rw (ne-eqb _ _ apart, ← read, e) p
+
+pub ruleset last-ends = (last-none, last-read, last-refused, needs)
+
+-- a tally that stops there
+pub tally-stopped : (last made : Places) (why : Refusal) (at : Place) → made ≡ last →
+    TA.Stopped made why at ≡ TA.Stopped last why at
+tally-stopped last made why at e = ap (λ (x : Places). TA.Stopped x why at) e
+
+pub ruleset stopped-ends = (tally-stopped, needs)

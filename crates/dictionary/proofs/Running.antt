@@ -6,7 +6,7 @@ use Prim.Native.Nat.{ℕ, _+_, _-_, _≤_, _<_}
 use native.Mathlib.Omega.{arith}
 use borrow.Author.Needs.{needs}
 use lib.ListN.{length}
-use Rattle.types.specs.Counters.{placesOf, noPlaces}
+use Rattle.types.specs.Counters.{noPlaces}
 use Rattle.types.specs.declared.Place.{Place}
 use Rattle.types.specs.declared.Places.{Places}
 use Rattle.types.specs.declared.Budget.{Budget}
@@ -16,9 +16,9 @@ use Rattle.dictionary.specs.declared.Step.the-variants as ST
 use Rattle.types.specs.declared.Ran.{Ran}
 use Rattle.types.specs.declared.Ran.the-variants as RN
 use Rattle.dictionary.specs.declared.Short.the-variants as SH
-use Rattle.dictionary.specs.Steps.{stepped, shortStep}
+use Rattle.dictionary.specs.Steps.{stepped, shortStep, lastOf}
 use Rattle.dictionary.specs.Runs.{runFrom, runAll}
-use Rattle.dictionary.proofs.Steps.{Past, told-refused, Told, told, by-step, step-less}
+use Rattle.dictionary.proofs.Steps.{Past, past-last, told-refused, Told, told, by-step, step-less}
 use Rattle.dictionary.proofs.Shorts.{by-first, short-less}
 use Rattle.dictionary.proofs.Turns.{Walked, walk-begins, walk-on, walk-answers, run-on, run-stop, run-end}
 
@@ -42,17 +42,19 @@ pub run-begins : (s : List ℕ) (all : Budget) → Running s all 0 0 (all .0) no
 run-begins s all = walk-begins running s (holding (all .0) 0 noPlaces)
 
 -- an atom passed, by the step or by its first byte
-abbrev Turns : List ℕ → ℕ → Budget → Place → Budget → Places → Bool → Type 0
+abbrev Turns : List ℕ → Place → Budget → Place → Budget → Places → Bool → Type 0
 Turns s at left place rest places t =
-    (all : Budget) (atoms : ℕ) (last : Places) → Running s all atoms at (left .0) last →
-    Running s all (atoms + 1) (place .0) (rest .0) places
+    (all : Budget) (atoms : ℕ) (last : Places) → Running s all atoms (at .0) (left .0) last →
+    Running s all (atoms + 1) (place .0) (rest .0) (lastOf s at place)
 
-turns : (s : List ℕ) (at : ℕ) (left : Budget) (place : Place) (rest : Budget) (places : Places) (t : Bool) →
-    at < length s →
-    Past s at left place rest places t → Turns s at left place rest places t
+turns : (s : List ℕ) (at : Place) (left : Budget) (place : Place) (rest : Budget) (places : Places) (t : Bool) →
+    at .0 < length s →
+    Past s (at .0) left place rest places t → Turns s at left place rest places t
 turns s at left place rest places t h e all atoms last i =
-    walk-on running s _ atoms at _ i left place rest places t e (holding (rest .0) (atoms + 1) places)
-    (λ fuel later k. run-on s fuel later at left atoms last k place rest places t h e)
+    let stand = past-last s (at .0) (omega arith) left place rest places t e in
+    rw (← stand)
+    (walk-on running s _ atoms (at .0) _ i left place rest places t e (holding (rest .0) (atoms + 1) places)
+    (λ fuel later k. run-on s fuel later (at .0) left atoms last k place rest places t h e))
 
 pub short-turn : Told shortStep SH.Past Turns
 short-turn = told shortStep SH.Past by-first Turns turns

@@ -7,7 +7,7 @@ use Prim.Native.Nat.{ℕ, _+_, _-_, _*_, _%_, _^_, _≤_, _<_}
 use native.Mathlib.Omega.{arith}
 use lib.Dec.{leb, eqb}
 use lib.ListN.{length, drop}
-use borrow.Author.Tests.{le-ltb, le-leb, lt-leb, leb-true, leb-false, eqb-true}
+use borrow.Author.Tests.{le-ltb, le-leb, lt-leb, leb-true, leb-false, eqb-true, ne-eqb}
 use Rattle.types.specs.Choice.{pick}
 use Rattle.types.specs.Counters.{placesOf}
 use Rattle.types.specs.Forms.{countOf, numberCharge, known, bodyLength, chargeOf, isString, unknown}
@@ -44,7 +44,7 @@ use Rattle.atom.specs.Charges.{budgetAfter}
 use Rattle.atom.specs.Atoms.{integerAtom, floatAtom, bytesAtom, bodyTaken, charged, judged, atomRead, atomFrom}
 use Rattle.atom.specs.Atoms.{atomAfter, firstPlace}
 use Rattle.dictionary.specs.declared.Step.the-variants as ST
-use Rattle.dictionary.specs.Steps.{forgotten, skipped, bodyAfter, lean, stepped}
+use Rattle.dictionary.specs.Steps.{forgotten, skipped, bodyAfter, lean, stepped, headerEnd, lastOf}
 use Rattle.dictionary.specs.Runs.{unlimited}
 use Rattle.dictionary.proofs.Bodies.{after-header, Passed, passed}
 
@@ -155,6 +155,30 @@ module _ (s : List ℕ) (at : ℕ) (within : at ≤ length s) (budget : Budget) 
       forward-body s at _ _ (budget .0) _ _ (at + headerLength l) places _ t _ (omega arith)
       (price-bound (headerKind l) (headerArgument l)) (passed _ _ _ _ _ _ _ _ place rest places t _ x)
 
+  -- and it stands where a loop finds it again that holds where it starts
+  last-at : (v : Bool) → leb (at + headerLength (drop at s)) (length s) ≡ v →
+      Past s at budget place rest places t → places ≡ lastOf s (record { 0 = at }) place
+  last-at false h e =
+      let x = sym (e .is) ∙ step-cut s at within budget (leb-false (at + headerLength (drop at s)) (length s) h) in
+      absurd (false≢true cc)
+  last-at true h e =
+      let l = drop at s in
+      let k = leb-true (at + headerLength l) (length s) h in
+      let x = sym (step-body s at within budget k) ∙ e .is in
+      let p = passed _ _ _ _ _ _ _ _ place rest places t _ x in
+      let one = length-bounds l .0 in
+      let n = p .ends in
+      let apart : at ≡ place .0 → ⊥ = λ z. omega arith in
+      let m : record { 0 = at + headerLength l + bodyLength (headerKind l) (headerArgument l) } ≡ place =
+      ap (λ (i : ℕ). record { 0 = i }) (sym n) in
+      p .stands
+      ∙ ap (λ (q : Place). placesOf (record { 0 = at }) (record { 0 = at + headerLength l }) q) m
+      ∙ sym (rw (ne-eqb at (place .0) apart)
+      (ap (λ (y : HeaderAnswer). placesOf (record { 0 = at }) (headerEnd y) place) (header-whole s at within budget k)))
+
+  pub past-last : Past s at budget place rest places t → places ≡ lastOf s (record { 0 = at }) place
+  past-last e = last-at (leb (at + headerLength (drop at s)) (length s)) refl e
+
   pub forward : Past s at budget place rest places t → Forward s at (budget .0) (place .0) (rest .0) places
   forward e = forward-at (leb (at + headerLength (drop at s)) (length s)) refl e
 
@@ -242,11 +266,11 @@ module _ (s : List ℕ) (place : ℕ) (budget : Budget) where
 -- what the loops are told of a step that passed an atom, by `step_atom` or by the first byte alone, and what follows of
 -- it: the atom stands from where the loop was, over its body, to the place after it
 abbrev pub Told : {X : Type 0} → (List ℕ → ℕ → Budget → X) → (Place → Budget → Place → Bool → X) →
-    (List ℕ → ℕ → Budget → Place → Budget → Places → Bool → Type 0) → Type 0
+    (List ℕ → Place → Budget → Place → Budget → Places → Bool → Type 0) → Type 0
 Told {X} step past P =
     (s : List ℕ) (at : Place) (left : Budget) (r : X) (place : Place) (rest : Budget) (body : Place) (t : Bool) →
     r ≡ step s (at .0) left → r ≡ past place rest body t → at .0 < length s →
-    P s (at .0) left place rest (placesOf at body place) t
+    P s at left place rest (placesOf at body place) t
 
 abbrev pub Telling : {X : Type 0} → (List ℕ → ℕ → Budget → X) → (Place → Budget → Place → Bool → X) → Type 0
 Telling step past =
@@ -254,12 +278,12 @@ Telling step past =
     step s at left ≡ past place rest body t → stepped s at left ≡ ST.Past place rest body t
 
 pub told : {X : Type 0} (step : List ℕ → ℕ → Budget → X) (past : Place → Budget → Place → Bool → X) →
-    Telling step past → (P : List ℕ → ℕ → Budget → Place → Budget → Places → Bool → Type 0) →
-    ((s : List ℕ) (at : ℕ) (left : Budget) (place : Place) (rest : Budget) (places : Places) (t : Bool) →
-    at < length s → Past s at left place rest places t → P s at left place rest places t) →
+    Telling step past → (P : List ℕ → Place → Budget → Place → Budget → Places → Bool → Type 0) →
+    ((s : List ℕ) (at : Place) (left : Budget) (place : Place) (rest : Budget) (places : Places) (t : Bool) →
+    at .0 < length s → Past s (at .0) left place rest places t → P s at left place rest places t) →
     Told step past P
 told step past telling P f s at left r place rest body t q p h =
-    f s (at .0) left place rest (placesOf at body place) t h (record { is = all })
+    f s at left place rest (placesOf at body place) t h (record { is = all })
   where
     all : skipped s (at .0) left ≡ SK.Past place rest (placesOf at body place) t
     all =
@@ -271,22 +295,22 @@ pub by-step : Telling stepped ST.Past
 by-step s at left place rest body t e = e
 
 -- the body starts before its end, and both are within the source; the budget never rises, and fewer bytes are left
-abbrev pub Starts : List ℕ → ℕ → Budget → Place → Budget → Places → Bool → Type 0
+abbrev pub Starts : List ℕ → Place → Budget → Place → Budget → Places → Bool → Type 0
 Starts s at left place rest places t = places .body .0 ≤ place .0
 
-abbrev pub Inside : List ℕ → ℕ → Budget → Place → Budget → Places → Bool → Type 0
+abbrev pub Inside : List ℕ → Place → Budget → Place → Budget → Places → Bool → Type 0
 Inside s at left place rest places t = place .0 ≤ length s
 
-abbrev pub Falls : List ℕ → ℕ → Budget → Place → Budget → Places → Bool → Type 0
+abbrev pub Falls : List ℕ → Place → Budget → Place → Budget → Places → Bool → Type 0
 Falls s at left place rest places t = rest .0 ≤ left .0
 
-abbrev pub Less : List ℕ → ℕ → Budget → Place → Budget → Places → Bool → Type 0
-Less s at left place rest places t = length s - place .0 < length s - at
+abbrev pub Less : List ℕ → Place → Budget → Place → Budget → Places → Bool → Type 0
+Less s at left place rest places t = length s - place .0 < length s - at .0
 
-module _ (s : List ℕ) (at : ℕ) (left : Budget) (place : Place) (rest : Budget) (places : Places) (t : Bool)
-    (h : at < length s) (p : Past s at left place rest places t) where
-  pub went : Forward s at (left .0) (place .0) (rest .0) places
-  went = forward s at (omega arith) left place rest places t p
+module _ (s : List ℕ) (at : Place) (left : Budget) (place : Place) (rest : Budget) (places : Places) (t : Bool)
+    (h : at .0 < length s) (p : Past s (at .0) left place rest places t) where
+  pub went : Forward s (at .0) (left .0) (place .0) (rest .0) places
+  went = forward s (at .0) (omega arith) left place rest places t p
 
   pub starts : Starts s at left place rest places t
   starts = went .after

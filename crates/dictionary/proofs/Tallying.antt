@@ -24,10 +24,10 @@ use Rattle.dictionary.specs.Letters.{letters}
 use Rattle.dictionary.specs.declared.Step.{Step}
 use Rattle.dictionary.specs.declared.Step.the-variants as ST
 use Rattle.dictionary.specs.declared.Short.the-variants as SH
-use Rattle.dictionary.specs.Steps.{stepped, shortStep}
+use Rattle.dictionary.specs.Steps.{stepped, shortStep, lastOf}
 use Rattle.dictionary.specs.Runs.{tallied, tallyFrom, tallyAll, nothing, unlimited}
 use Rattle.dictionary.proofs.Steps.{Past, forward, went, Told, told, by-step, step-starts, step-inside}
-use Rattle.dictionary.proofs.Steps.{step-falls, step-less, told-refused}
+use Rattle.dictionary.proofs.Steps.{step-falls, step-less, past-last, told-refused}
 use Rattle.dictionary.proofs.Shorts.{by-first, short-starts, short-inside, short-falls, short-less}
 use Rattle.dictionary.proofs.Turns.{Walked, walk-begins, walk-on, walk-answers, tally-on, tally-stop, tally-end}
 
@@ -65,8 +65,9 @@ module _ (s : List ℕ) (at : ℕ) (left : Budget) (place : Place) (rest : Budge
   passed : (n : ℕ) → n + places .body .0 ≤ place .0 →
       n ≡ pick string (letters (take (place .0 - places .body .0) (drop (places .body .0) s))) 0 →
       Tallying s (atoms + 1) (body + (place .0 - places .body .0)) (charge + (unlimited - rest .0)) (signs + n)
-      (place .0) places
+      (place .0) (lastOf s (record { 0 = at }) place)
   passed n most e =
+      let stand = past-last s at (omega arith) left place rest places string p in
       let all : Past s at (record { 0 = unlimited }) place rest places string = record { is = rw (← full) (p .is) } in
       let w = forward s at (omega arith) (record { 0 = unlimited }) place rest places string all in
       let f = i .walked .few in
@@ -75,7 +76,7 @@ module _ (s : List ℕ) (at : ℕ) (left : Budget) (place : Place) (rest : Budge
       let m = i .lettered in
       record {
         walked =
-            rw e
+            rw (← stand, e)
             (walk-on tallying s _ atoms at _ (i .walked) (record { 0 = unlimited }) place rest places string all
             (holding _ places)
             (λ fuel later k. tally-on s fuel later at _ last k place rest places string h all));
@@ -90,61 +91,61 @@ module _ (s : List ℕ) (at : ℕ) (left : Budget) (place : Place) (rest : Budge
     spent = ap (λ (b : Budget). b .0) full
 
     body-low : Fits w64 (body + (place .0 - places .body .0))
-    body-low = let w = went s at left place rest places string h p in let l = i .low in omega arith
+    body-low = let w = went s (record { 0 = at }) left place rest places string h p in let l = i .low in omega arith
 
     charge-low : Fits w64 (charge + (unlimited - rest .0))
     charge-low =
-        let w = went s at left place rest places string h p in
+        let w = went s (record { 0 = at }) left place rest places string h p in
         let e = spent in
         let l = i .low in
         let c = i .costs in
         omega arith
 
     letters-low : (n : ℕ) → n + places .body .0 ≤ place .0 → Fits w64 (signs + n)
-    letters-low n most = let w = went s at left place rest places string h p in let m = i .lettered in omega arith
+    letters-low n most = let w = went s (record { 0 = at }) left place rest places string h p in let m = i .lettered in omega arith
 
 -- what the loop asks of an atom passed, by the step or by its first byte
-abbrev BodyFits : List ℕ → ℕ → Budget → Place → Budget → Places → Bool → Type 0
+abbrev BodyFits : List ℕ → Place → Budget → Place → Budget → Places → Bool → Type 0
 BodyFits s at left place rest places string =
-    (atoms body charge signs : ℕ) (last : Places) → Tallying s atoms body charge signs at last →
+    (atoms body charge signs : ℕ) (last : Places) → Tallying s atoms body charge signs (at .0) last →
     left ≡ record { 0 = unlimited } → length s ≤ 16_777_216 → Fits w64 (body + (place .0 - places .body .0))
 
-abbrev ChargeFits : List ℕ → ℕ → Budget → Place → Budget → Places → Bool → Type 0
+abbrev ChargeFits : List ℕ → Place → Budget → Place → Budget → Places → Bool → Type 0
 ChargeFits s at left place rest places string =
-    (atoms body charge signs : ℕ) (last : Places) → Tallying s atoms body charge signs at last →
+    (atoms body charge signs : ℕ) (last : Places) → Tallying s atoms body charge signs (at .0) last →
     left ≡ record { 0 = unlimited } → length s ≤ 16_777_216 → Fits w64 (charge + (unlimited - rest .0))
 
-abbrev LettersFit : List ℕ → ℕ → Budget → Place → Budget → Places → Bool → Type 0
+abbrev LettersFit : List ℕ → Place → Budget → Place → Budget → Places → Bool → Type 0
 LettersFit s at left place rest places string =
-    (atoms body charge signs : ℕ) (last : Places) → Tallying s atoms body charge signs at last →
+    (atoms body charge signs : ℕ) (last : Places) → Tallying s atoms body charge signs (at .0) last →
     left ≡ record { 0 = unlimited } → length s ≤ 16_777_216 → (n : ℕ) → n + places .body .0 ≤ place .0 →
     Fits w64 (signs + n)
 
-abbrev Tallies : List ℕ → ℕ → Budget → Place → Budget → Places → Bool → Type 0
+abbrev Tallies : List ℕ → Place → Budget → Place → Budget → Places → Bool → Type 0
 Tallies s at left place rest places string =
-    (atoms body charge signs : ℕ) (last : Places) → Tallying s atoms body charge signs at last →
+    (atoms body charge signs : ℕ) (last : Places) → Tallying s atoms body charge signs (at .0) last →
     left ≡ record { 0 = unlimited } → (n : ℕ) → n + places .body .0 ≤ place .0 →
     n ≡ pick string (letters (take (place .0 - places .body .0) (drop (places .body .0) s))) 0 →
     Tallying s (atoms + 1) (body + (place .0 - places .body .0)) (charge + (unlimited - rest .0)) (signs + n)
-    (place .0) places
+    (place .0) (lastOf s at place)
 
-module _ (s : List ℕ) (at : ℕ) (left : Budget) (place : Place) (rest : Budget) (places : Places) (string : Bool)
-    (h : at < length s) (p : Past s at left place rest places string) where
+module _ (s : List ℕ) (at : Place) (left : Budget) (place : Place) (rest : Budget) (places : Places) (string : Bool)
+    (h : at .0 < length s) (p : Past s (at .0) left place rest places string) where
   fits-body : BodyFits s at left place rest places string
   fits-body atoms body charge signs last i full l =
-      body-low s at left place rest places string h p full atoms body charge signs last i l
+      body-low s (at .0) left place rest places string h p full atoms body charge signs last i l
 
   fits-charge : ChargeFits s at left place rest places string
   fits-charge atoms body charge signs last i full l =
-      charge-low s at left place rest places string h p full atoms body charge signs last i l
+      charge-low s (at .0) left place rest places string h p full atoms body charge signs last i l
 
   fits-letters : LettersFit s at left place rest places string
   fits-letters atoms body charge signs last i full l n most =
-      letters-low s at left place rest places string h p full atoms body charge signs last i l n most
+      letters-low s (at .0) left place rest places string h p full atoms body charge signs last i l n most
 
   tallies : Tallies s at left place rest places string
   tallies atoms body charge signs last i full n most e =
-      passed s at left place rest places string h p full atoms body charge signs last i n most e
+      passed s (at .0) left place rest places string h p full atoms body charge signs last i n most e
 
 pub body-fits : Told stepped ST.Past BodyFits
 body-fits = told stepped ST.Past by-step BodyFits fits-body

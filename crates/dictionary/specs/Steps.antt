@@ -10,13 +10,18 @@ use Rattle.types.specs.Counters.{placesOf}
 use Rattle.types.specs.Forms.{known, bodyLength, chargeOf, isString, unknown}
 use Rattle.types.specs.declared.Way.the-variants as W
 use Rattle.types.specs.declared.Kind.{Kind}
+use Rattle.types.specs.declared.Place.{Place}
+use Rattle.types.specs.declared.Places.{Places}
 use Rattle.types.specs.declared.Budget.{Budget}
 use Rattle.types.specs.declared.Refusal.{Refusal}
 use Rattle.types.specs.declared.Refusal.the-variants as R
+use Rattle.types.specs.declared.HeaderAnswer.{HeaderAnswer}
+use Rattle.types.specs.declared.HeaderAnswer.the-variants as H
 use Rattle.types.specs.declared.AtomAnswer.{AtomAnswer}
 use Rattle.types.specs.declared.AtomAnswer.the-variants as A
 use Rattle.types.specs.declared.Skipped.{Skipped}
 use Rattle.types.specs.declared.Skipped.the-variants as SK
+use Rattle.header.specs.Header.{headerRead}
 use Rattle.atom.specs.Atoms.{atomRead}
 use Rattle.dictionary.specs.declared.Step.{Step}
 use Rattle.dictionary.specs.declared.Step.the-variants as ST
@@ -50,8 +55,7 @@ bodyAfter size kind arg first at left =
     bodyPast size first at left (isString kind) (bodyLength kind arg) (chargeOf kind arg) (known kind arg)
     (unknown kind arg)
 
--- The step as the run and the tally are told of it: of the places the start of the body alone. The loops hold where the
--- atom starts, and where it ends is the place.
+-- The step as the run and the tally are told of it: of the places the start of the body alone.
 abbrev pub lean : Skipped → Step
 lean (SK.Past place rest places string) = ST.Past place rest (places .body) string
 lean (SK.Refused place rest r) = ST.Refused place rest r
@@ -78,3 +82,15 @@ shortByte b = pick (eqb b 0x40) true (pick (eqb (b / 16) 14) true (eqb (b / 16) 
 -- the step at such a byte
 unfoldable pub shortStep : List ℕ → ℕ → Budget → Short
 shortStep source at budget = pick (shortByte (getD source at 0)) (pastAlone (stepped source at budget)) SH.Other
+
+-- the place that a header's read leaves, refused or not
+abbrev pub headerEnd : HeaderAnswer → Place
+headerEnd (H.Read next kind arg) = next
+headerEnd (H.Refused end why) = end
+
+-- where the last atom stands that was read up to a place: from where it starts, past its header, to that place; all one
+-- place if none was read
+abbrev pub lastOf : List ℕ → Place → Place → Places
+lastOf source first at =
+    pick (eqb (first .0) (at .0)) (placesOf first first first)
+    (placesOf first (headerEnd (headerRead W.ExactLent source (first .0))) at)

@@ -10,7 +10,7 @@ ghost use Rattle.types.specs.Forms.{numberCharge, unsupported};
 ghost use Rattle.types.specs.declared.Refusal.the-variants as R;
 ghost use Rattle.types.specs.declared.TallyAnswer.the-variants as TA;
 ghost use Rattle.dictionary.specs.Letters.{letter, letters};
-ghost use Rattle.dictionary.specs.Steps.{skipped, stepped, bodyStep, stepAfter, pastAlone, shortStep};
+ghost use Rattle.dictionary.specs.Steps.{skipped, stepped, bodyStep, stepAfter, pastAlone, shortStep, lastOf};
 ghost use Rattle.dictionary.specs.Runs.{runAll, tallied, tallyFrom, nothing, tallyAll};
 use types::BodyBytes;
 use types::Budget;
@@ -199,22 +199,33 @@ fn short_atom(source: &[u8], at: Place, left: Budget) -> Short
     return Short::Other;
 }
 
-// Reads a file's atoms until its end or a refusal. Of the last one it holds where it starts and where its body does: it
-// ends where the run stands.
+// Where the last atom stands, of which a loop holds where it starts, and that it ends where the loop is: its header, read
+// again, tells the rest. Where there is none the loop is where it began.
+fn last_places(source: &[u8], first: Place, at: Place) -> Places
+    ensures { λ r. ⌜ r ≡ lastOf (now (source .entry)) first at ⌝ }
+{
+    if first.0 == at.0 {
+        return places_of(first, first, first);
+    }
+    match header::read_atom_header(source, first, Way::ExactLent) {
+        HeaderAnswer::Read(body, _, _) => return places_of(first, body, at),
+        HeaderAnswer::Refused(end, _) => return places_of(first, end, at),
+    }
+}
+
+// Reads a file's atoms until its end or a refusal.
 pub fn run(source: &[u8], budget: Budget) -> Ran
     ensures { λ r. ⌜ r ≡ runAll (now (source .entry)) budget ⌝ }
 {
     let mut atoms: u64 = 0;
     let mut first = Place(0);
-    let mut body = Place(0);
     let mut at = Place(0);
     let mut left = budget;
     while at.0 < source.len() {
         match short_atom(source, at, left) {
-            Short::Past(end, rest, from, _) => {
+            Short::Past(end, rest, _, _) => {
                 atoms += 1;
                 first = at;
-                body = from;
                 at = end;
                 left = rest;
                 continue;
@@ -222,19 +233,19 @@ pub fn run(source: &[u8], budget: Budget) -> Ran
             Short::Other => {}
         }
         match step_atom(source, at, left) {
-            Step::Past(next, rest, from, _) => {
+            Step::Past(next, rest, _, _) => {
                 atoms += 1;
                 first = at;
-                body = from;
                 at = next;
                 left = rest;
             }
             Step::Refused(place, rest, refusal) => {
-                return Ran::Stopped(place, rest, atoms, places_of(first, body, at), refusal, at);
+                let last = last_places(source, first, at);
+                return Ran::Stopped(place, rest, atoms, last, refusal, at);
             }
         }
     }
-    return Ran::Done(at, left, atoms, places_of(first, body, at));
+    return Ran::Done(at, left, atoms, last_places(source, first, at));
 }
 
 // 1 for a letter, else 0: a choice without a branch, so that a loop over it takes many bytes at a time.
@@ -302,12 +313,12 @@ fn letters_of(source: &[u8], from: Place, to: Place, string: bool) -> u64
 }
 
 // The answer of a tally that met the file's end.
-fn counted(last: Places, atoms: u64, bytes: BodyBytes, charge: u64, letters: u64) -> TallyAnswer
-    ensures { λ r. ⌜ r ≡ TA.Done last (tallied atoms (bytes .0) charge letters) ⌝ }
+fn counted(last: Places, atoms: u64, body: BodyBytes, charge: u64, letters: u64) -> TallyAnswer
+    ensures { λ r. ⌜ r ≡ TA.Done last (tallied atoms (body .0) charge letters) ⌝ }
 {
     let held = Tallied {
         atoms,
-        body: bytes,
+        body,
         charge,
         letters,
     };
@@ -315,15 +326,10 @@ fn counted(last: Places, atoms: u64, bytes: BodyBytes, charge: u64, letters: u64
 }
 
 // The answer of a tally that met a bad atom, which starts where the last good one ends.
-fn stopped(first: Place, body: Place, at: Place, refusal: Refusal) -> TallyAnswer
-    ensures { λ r. ⌜ r ≡ TA.Stopped (placesOf first body at) refusal at ⌝ }
+fn stopped(source: &[u8], first: Place, at: Place, refusal: Refusal) -> TallyAnswer
+    ensures { λ r. ⌜ r ≡ TA.Stopped (lastOf (now (source .entry)) first at) refusal at ⌝ }
 {
-    let last = Places {
-        first,
-        body,
-        after: at,
-    };
-    TallyAnswer::Stopped(last, refusal, at)
+    TallyAnswer::Stopped(last_places(source, first, at), refusal, at)
 }
 
 // The answer to an input that is too long, of which no atom was read.
@@ -339,17 +345,16 @@ fn too_long() -> TallyAnswer
 }
 
 // Counts the atoms of a file that is not too long. Each is read with the largest budget, which no charge exceeds: what it
-// takes of that is its charge. Of the last one it holds where it starts and where its body does, as the run.
+// takes of that is its charge.
 fn tally_within(source: &[u8]) -> TallyAnswer
     requires { ⌜ length (now source) ≤ 16_777_216 ⌝ }
     ensures { λ r. ⌜ r ≡ tallyFrom (suc (length (now (source .entry)))) (now (source .entry)) 0 nothing noPlaces ⌝ }
 {
     let mut atoms: u64 = 0;
-    let mut bytes = BodyBytes(0);
+    let mut body = BodyBytes(0);
     let mut charge: u64 = 0;
     let mut letters: u64 = 0;
     let mut first = Place(0);
-    let mut body = Place(0);
     let mut at = Place(0);
     while at.0 < source.len() {
         match short_atom(source, at, Budget(0xFFFF_FFFF_FFFF_FFFF)) {
@@ -357,9 +362,8 @@ fn tally_within(source: &[u8]) -> TallyAnswer
                 atoms += 1;
                 letters += letters_of(source, from, end, string);
                 charge += 0xFFFF_FFFF_FFFF_FFFF - rest.0;
-                bytes = BodyBytes(bytes.0 + (end.0 - from.0) as u64);
+                body = BodyBytes(body.0 + (end.0 - from.0) as u64);
                 first = at;
-                body = from;
                 at = end;
                 continue;
             }
@@ -370,15 +374,14 @@ fn tally_within(source: &[u8]) -> TallyAnswer
                 atoms += 1;
                 letters += letters_of(source, from, place, string);
                 charge += 0xFFFF_FFFF_FFFF_FFFF - rest.0;
-                bytes = BodyBytes(bytes.0 + (place.0 - from.0) as u64);
+                body = BodyBytes(body.0 + (place.0 - from.0) as u64);
                 first = at;
-                body = from;
                 at = place;
             }
-            Step::Refused(_, _, refusal) => return stopped(first, body, at, refusal),
+            Step::Refused(_, _, refusal) => return stopped(source, first, at, refusal),
         }
     }
-    return counted(places_of(first, body, at), atoms, bytes, charge, letters);
+    return counted(last_places(source, first, at), atoms, body, charge, letters);
 }
 
 // Counts a file's atoms, body bytes, charges and letters, or refuses at the first bad atom.

@@ -2,17 +2,17 @@
 -- least, so that the bytes left are the measure.
 use Prim.Native.Nat.{_-_}
 use lib.ListN.{length}
-use Rattle.types.specs.Counters.{placesOf}
+use Rattle.dictionary.specs.Steps.{lastOf}
 use Rattle.dictionary.proofs.Running.{Running, run-laws}
 use Rattle.dictionary.proofs.run.Statement.{statement}
 use Rattle.dictionary.proofs.run.Tie as tie
 
 abbrev Inv-loop : tie.InvT-loop
-Inv-loop source atoms₀ first₀ body₀ at₀ left₀ atoms first body at left =
-    Running source left₀ atoms (at .0) (left .0) (placesOf first body at)
+Inv-loop source atoms₀ first₀ at₀ left₀ atoms first at left =
+    Running source left₀ atoms (at .0) (left .0) (lastOf source first at)
 
 abbrev μ-loop : tie.MeasureT-loop
-μ-loop source atoms₀ first₀ body₀ at₀ left₀ atoms first body at left = length source - at .0
+μ-loop source atoms₀ first₀ at₀ left₀ atoms first at left = length source - at .0
 
 loop-again : tie.Need-loop-again Inv-loop μ-loop
 loop-again c = search run-laws

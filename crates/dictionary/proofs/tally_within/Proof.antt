@@ -2,18 +2,18 @@
 -- measure.
 use Prim.Native.Nat.{_-_}
 use lib.ListN.{length}
-use Rattle.types.specs.Counters.{placesOf}
+use Rattle.dictionary.specs.Steps.{lastOf}
 use Rattle.dictionary.proofs.Steps.{step-starts, step-inside}
 use Rattle.dictionary.proofs.Tallying.{Tallying, tally-laws}
 use Rattle.dictionary.proofs.tally_within.Statement.{statement}
 use Rattle.dictionary.proofs.tally_within.Tie as tie
 
 abbrev Inv-loop : tie.InvT-loop
-Inv-loop source atoms₀ bytes₀ charge₀ letters₀ first₀ body₀ at₀ atoms bytes charge letters first body at =
-    Tallying source atoms (bytes .0) charge letters (at .0) (placesOf first body at)
+Inv-loop source atoms₀ body₀ charge₀ letters₀ first₀ at₀ atoms body charge letters first at =
+    Tallying source atoms (body .0) charge letters (at .0) (lastOf source first at)
 
 abbrev μ-loop : tie.MeasureT-loop
-μ-loop source atoms₀ bytes₀ charge₀ letters₀ first₀ body₀ at₀ atoms bytes charge letters first body at =
+μ-loop source atoms₀ body₀ charge₀ letters₀ first₀ at₀ atoms body charge letters first at =
     length source - at .0
 
 -- two facts, each searched for by itself: for both at once the search would break off
