@@ -30,8 +30,8 @@ use Rattle.dictionary.specs.declared.Short.the-variants as SH
 use Rattle.dictionary.specs.Steps.{skipped, bodyPast, bodyAfter, lean, stepped, bodyStep, pastAlone, shortByte}
 use Rattle.dictionary.specs.Steps.{shortStep}
 use Rattle.dictionary.proofs.Bodies.{over, afforded, past-over, past-eof, past-whole, any-first}
-use Rattle.dictionary.proofs.Steps.{step-body, Told, Telling, told, Starts, Inside, Falls, Less}
-use Rattle.dictionary.proofs.Steps.{starts, inside, falls, less}
+use Rattle.dictionary.proofs.Steps.{step-body, Told, Telling, told, Starts, Begins, Inside, Falls, Less}
+use Rattle.dictionary.proofs.Steps.{starts, begins, inside, falls, less}
 
 -- a known body after a header of one byte
 module _ (size : ℕ) (at : Place) (left : Budget) (string : Bool) (len charge : ℕ) where
@@ -167,6 +167,9 @@ by-first s at left place rest body t e = past-at place rest body t (shortByte (g
 -- so the loops have of it what they have of a step
 pub short-starts : Told shortStep SH.Past Starts
 short-starts = told shortStep SH.Past by-first Starts starts
+
+pub short-begins : Told shortStep SH.Past Begins
+short-begins = told shortStep SH.Past by-first Begins begins
 
 pub short-inside : Told shortStep SH.Past Inside
 short-inside = told shortStep SH.Past by-first Inside inside

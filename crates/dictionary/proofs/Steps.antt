@@ -298,6 +298,9 @@ by-step s at left place rest body t e = e
 abbrev pub Starts : List ℕ → Place → Budget → Place → Budget → Places → Bool → Type 0
 Starts s at left place rest places t = places .body .0 ≤ place .0
 
+abbrev pub Begins : List ℕ → Place → Budget → Place → Budget → Places → Bool → Type 0
+Begins s at left place rest places t = at .0 ≤ places .body .0
+
 abbrev pub Inside : List ℕ → Place → Budget → Place → Budget → Places → Bool → Type 0
 Inside s at left place rest places t = place .0 ≤ length s
 
@@ -315,6 +318,9 @@ module _ (s : List ℕ) (at : Place) (left : Budget) (place : Place) (rest : Bud
   pub starts : Starts s at left place rest places t
   starts = went .after
 
+  pub begins : Begins s at left place rest places t
+  begins = let w = went in omega arith
+
   pub inside : Inside s at left place rest places t
   inside = went .inside
 
@@ -326,6 +332,9 @@ module _ (s : List ℕ) (at : Place) (left : Budget) (place : Place) (rest : Bud
 
 pub step-starts : Told stepped ST.Past Starts
 step-starts = told stepped ST.Past by-step Starts starts
+
+pub step-begins : Told stepped ST.Past Begins
+step-begins = told stepped ST.Past by-step Begins begins
 
 pub step-inside : Told stepped ST.Past Inside
 step-inside = told stepped ST.Past by-step Inside inside

@@ -26,9 +26,9 @@ use Rattle.dictionary.specs.declared.Step.the-variants as ST
 use Rattle.dictionary.specs.declared.Short.the-variants as SH
 use Rattle.dictionary.specs.Steps.{stepped, shortStep, lastOf}
 use Rattle.dictionary.specs.Runs.{tallied, tallyFrom, tallyAll, nothing, unlimited}
-use Rattle.dictionary.proofs.Steps.{Past, forward, went, Told, told, by-step, step-starts, step-inside}
+use Rattle.dictionary.proofs.Steps.{Past, forward, went, Told, told, by-step, step-starts, step-begins, step-inside}
 use Rattle.dictionary.proofs.Steps.{step-falls, step-less, past-last, told-refused}
-use Rattle.dictionary.proofs.Shorts.{by-first, short-starts, short-inside, short-falls, short-less}
+use Rattle.dictionary.proofs.Shorts.{by-first, short-starts, short-begins, short-inside, short-falls, short-less}
 use Rattle.dictionary.proofs.Turns.{Walked, walk-begins, walk-on, walk-answers, tally-on, tally-stop, tally-end}
 
 -- what a tally holds: what it counted, and where the last atom stands
@@ -42,12 +42,12 @@ holding counts last = record { counts = counts; last = last }
 abbrev pub tallying : ℕ → List ℕ → ℕ → Held → TallyAnswer
 tallying fuel s at x = tallyFrom fuel s at (x .counts) (x .last)
 
--- so much is counted, the place is there, and the rest of the tally is the whole one's
-pub record Tallying (s : List ℕ) (atoms body charge signs at : ℕ) (last : Places) : Type 0 where
+-- so much is counted, the place is there, and the rest of the tally is the whole one's; what is no header is a body
+pub record Tallying (s : List ℕ) (atoms heads charge signs at : ℕ) (last : Places) : Type 0 where
   pub walked : Walked tallying s (tallyFrom (suc (length s)) s 0 nothing noPlaces) atoms at
-      (holding (tallied atoms body charge signs) last)
-  pub low : body ≤ at
-  pub costs : 3 * charge ≤ 4 * body
+      (holding (tallied atoms (at - heads) charge signs) last)
+  pub low : heads ≤ at
+  pub costs : 3 * charge ≤ 4 * (at - heads)
   pub lettered : signs ≤ at
 
 pub tally-begins : (s : List ℕ) → Tallying s 0 0 0 0 0 noPlaces
@@ -60,12 +60,12 @@ tally-begins s = record {
 
 module _ (s : List ℕ) (at : ℕ) (left : Budget) (place : Place) (rest : Budget) (places : Places) (string : Bool)
     (h : at < length s) (p : Past s at left place rest places string) (full : left ≡ record { 0 = unlimited })
-    (atoms body charge signs : ℕ) (last : Places) (i : Tallying s atoms body charge signs at last) where
+    (atoms heads charge signs : ℕ) (last : Places) (i : Tallying s atoms heads charge signs at last) where
   -- an atom that is passed, with so many letters
   passed : (n : ℕ) → n + places .body .0 ≤ place .0 →
       n ≡ pick string (letters (take (place .0 - places .body .0) (drop (places .body .0) s))) 0 →
-      Tallying s (atoms + 1) (body + (place .0 - places .body .0)) (charge + (unlimited - rest .0)) (signs + n)
-      (place .0) (lastOf s (record { 0 = at }) place)
+      Tallying s (atoms + 1) (heads + (places .body .0 - at)) (charge + (unlimited - rest .0)) (signs + n) (place .0)
+      (lastOf s (record { 0 = at }) place)
   passed n most e =
       let stand = past-last s at (omega arith) left place rest places string p in
       let all : Past s at (record { 0 = unlimited }) place rest places string = record { is = rw (← full) (p .is) } in
@@ -74,9 +74,13 @@ module _ (s : List ℕ) (at : ℕ) (left : Budget) (place : Place) (rest : Budge
       let l = i .low in
       let c = i .costs in
       let m = i .lettered in
+      let takes = w .takes in
+      let ends = w .after in
+      let bodies : at - heads + (place .0 - places .body .0) ≡ place .0 - (heads + (places .body .0 - at)) =
+      omega arith in
       record {
         walked =
-            rw (← stand, e)
+            rw (← stand, e, ← bodies)
             (walk-on tallying s _ atoms at _ (i .walked) (record { 0 = unlimited }) place rest places string all
             (holding _ places)
             (λ fuel later k. tally-on s fuel later at _ last k place rest places string h all));
@@ -90,8 +94,9 @@ module _ (s : List ℕ) (at : ℕ) (left : Budget) (place : Place) (rest : Budge
     spent : left .0 ≡ unlimited
     spent = ap (λ (b : Budget). b .0) full
 
-    body-low : Fits w64 (body + (place .0 - places .body .0))
-    body-low = let w = went s (record { 0 = at }) left place rest places string h p in let l = i .low in omega arith
+    heads-low : Fits w64 (heads + (places .body .0 - at))
+    heads-low =
+        let w = went s (record { 0 = at }) left place rest places string h p in let l = i .low in omega arith
 
     charge-low : Fits w64 (charge + (unlimited - rest .0))
     charge-low =
@@ -102,53 +107,54 @@ module _ (s : List ℕ) (at : ℕ) (left : Budget) (place : Place) (rest : Budge
         omega arith
 
     letters-low : (n : ℕ) → n + places .body .0 ≤ place .0 → Fits w64 (signs + n)
-    letters-low n most = let w = went s (record { 0 = at }) left place rest places string h p in let m = i .lettered in omega arith
+    letters-low n most =
+        let w = went s (record { 0 = at }) left place rest places string h p in let m = i .lettered in omega arith
 
 -- what the loop asks of an atom passed, by the step or by its first byte
-abbrev BodyFits : List ℕ → Place → Budget → Place → Budget → Places → Bool → Type 0
-BodyFits s at left place rest places string =
-    (atoms body charge signs : ℕ) (last : Places) → Tallying s atoms body charge signs (at .0) last →
-    left ≡ record { 0 = unlimited } → length s ≤ 16_777_216 → Fits w64 (body + (place .0 - places .body .0))
+abbrev HeadsFit : List ℕ → Place → Budget → Place → Budget → Places → Bool → Type 0
+HeadsFit s at left place rest places string =
+    (atoms heads charge signs : ℕ) (last : Places) → Tallying s atoms heads charge signs (at .0) last →
+    left ≡ record { 0 = unlimited } → length s ≤ 16_777_216 → Fits w64 (heads + (places .body .0 - at .0))
 
 abbrev ChargeFits : List ℕ → Place → Budget → Place → Budget → Places → Bool → Type 0
 ChargeFits s at left place rest places string =
-    (atoms body charge signs : ℕ) (last : Places) → Tallying s atoms body charge signs (at .0) last →
+    (atoms heads charge signs : ℕ) (last : Places) → Tallying s atoms heads charge signs (at .0) last →
     left ≡ record { 0 = unlimited } → length s ≤ 16_777_216 → Fits w64 (charge + (unlimited - rest .0))
 
 abbrev LettersFit : List ℕ → Place → Budget → Place → Budget → Places → Bool → Type 0
 LettersFit s at left place rest places string =
-    (atoms body charge signs : ℕ) (last : Places) → Tallying s atoms body charge signs (at .0) last →
+    (atoms heads charge signs : ℕ) (last : Places) → Tallying s atoms heads charge signs (at .0) last →
     left ≡ record { 0 = unlimited } → length s ≤ 16_777_216 → (n : ℕ) → n + places .body .0 ≤ place .0 →
     Fits w64 (signs + n)
 
 abbrev Tallies : List ℕ → Place → Budget → Place → Budget → Places → Bool → Type 0
 Tallies s at left place rest places string =
-    (atoms body charge signs : ℕ) (last : Places) → Tallying s atoms body charge signs (at .0) last →
+    (atoms heads charge signs : ℕ) (last : Places) → Tallying s atoms heads charge signs (at .0) last →
     left ≡ record { 0 = unlimited } → (n : ℕ) → n + places .body .0 ≤ place .0 →
     n ≡ pick string (letters (take (place .0 - places .body .0) (drop (places .body .0) s))) 0 →
-    Tallying s (atoms + 1) (body + (place .0 - places .body .0)) (charge + (unlimited - rest .0)) (signs + n)
-    (place .0) (lastOf s at place)
+    Tallying s (atoms + 1) (heads + (places .body .0 - at .0)) (charge + (unlimited - rest .0)) (signs + n) (place .0)
+    (lastOf s at place)
 
 module _ (s : List ℕ) (at : Place) (left : Budget) (place : Place) (rest : Budget) (places : Places) (string : Bool)
     (h : at .0 < length s) (p : Past s (at .0) left place rest places string) where
-  fits-body : BodyFits s at left place rest places string
-  fits-body atoms body charge signs last i full l =
-      body-low s (at .0) left place rest places string h p full atoms body charge signs last i l
+  fits-heads : HeadsFit s at left place rest places string
+  fits-heads atoms heads charge signs last i full l =
+      heads-low s (at .0) left place rest places string h p full atoms heads charge signs last i l
 
   fits-charge : ChargeFits s at left place rest places string
-  fits-charge atoms body charge signs last i full l =
-      charge-low s (at .0) left place rest places string h p full atoms body charge signs last i l
+  fits-charge atoms heads charge signs last i full l =
+      charge-low s (at .0) left place rest places string h p full atoms heads charge signs last i l
 
   fits-letters : LettersFit s at left place rest places string
-  fits-letters atoms body charge signs last i full l n most =
-      letters-low s (at .0) left place rest places string h p full atoms body charge signs last i l n most
+  fits-letters atoms heads charge signs last i full l n most =
+      letters-low s (at .0) left place rest places string h p full atoms heads charge signs last i l n most
 
   tallies : Tallies s at left place rest places string
-  tallies atoms body charge signs last i full n most e =
-      passed s (at .0) left place rest places string h p full atoms body charge signs last i n most e
+  tallies atoms heads charge signs last i full n most e =
+      passed s (at .0) left place rest places string h p full atoms heads charge signs last i n most e
 
-pub body-fits : Told stepped ST.Past BodyFits
-body-fits = told stepped ST.Past by-step BodyFits fits-body
+pub heads-fit : Told stepped ST.Past HeadsFit
+heads-fit = told stepped ST.Past by-step HeadsFit fits-heads
 
 pub charge-fits : Told stepped ST.Past ChargeFits
 charge-fits = told stepped ST.Past by-step ChargeFits fits-charge
@@ -159,8 +165,8 @@ letters-fit = told stepped ST.Past by-step LettersFit fits-letters
 pub step-tally : Told stepped ST.Past Tallies
 step-tally = told stepped ST.Past by-step Tallies tallies
 
-pub short-body-fits : Told shortStep SH.Past BodyFits
-short-body-fits = told shortStep SH.Past by-first BodyFits fits-body
+pub short-heads-fit : Told shortStep SH.Past HeadsFit
+short-heads-fit = told shortStep SH.Past by-first HeadsFit fits-heads
 
 pub short-charge-fits : Told shortStep SH.Past ChargeFits
 short-charge-fits = told shortStep SH.Past by-first ChargeFits fits-charge
@@ -171,8 +177,8 @@ short-letters-fit = told shortStep SH.Past by-first LettersFit fits-letters
 pub short-tally : Told shortStep SH.Past Tallies
 short-tally = told shortStep SH.Past by-first Tallies tallies
 
-module _ (s : List ℕ) (atoms body charge signs : ℕ) (at : Place) (last : Places)
-    (i : Tallying s atoms body charge signs (at .0) last) where
+module _ (s : List ℕ) (atoms heads charge signs : ℕ) (at : Place) (last : Places)
+    (i : Tallying s atoms heads charge signs (at .0) last) where
   -- refused by the step
   pub tally-stops : (answer : TallyAnswer) (r : Step) (end : Place) (rest : Budget) (why : Refusal) →
       answer ≡ TA.Stopped last why at → at .0 < length s → r ≡ stepped s (at .0) (record { 0 = unlimited }) →
@@ -184,19 +190,20 @@ module _ (s : List ℕ) (atoms body charge signs : ℕ) (at : Place) (last : Pla
       (told-refused s (at .0) (record { 0 = unlimited }) end rest why (sym q ∙ p)))
 
   -- the end of the file
-  pub tally-ends : (places : Places) (r : TallyAnswer) → r ≡ TA.Done places (tallied atoms body charge signs) →
-      places ≡ last → length s ≤ at .0 → r ≡ tallyFrom (suc (length s)) s 0 nothing noPlaces
+  pub tally-ends : (places : Places) (r : TallyAnswer) →
+      r ≡ TA.Done places (tallied atoms (at .0 - heads) charge signs) → places ≡ last → length s ≤ at .0 →
+      r ≡ tallyFrom (suc (length s)) s 0 nothing noPlaces
   tally-ends places r e l h =
       e
-      ∙ ap (λ (x : Places). TA.Done x (tallied atoms body charge signs)) l
+      ∙ ap (λ (x : Places). TA.Done x (tallied atoms (at .0 - heads) charge signs)) l
       ∙ walk-answers tallying s _ atoms (at .0) _ (i .walked) _
       (λ fuel later k. tally-end s fuel later (at .0) _ last k h)
 
 pub ruleset step-passed =
-    (step-starts, step-inside, step-falls, step-less, body-fits, charge-fits, letters-fit, step-tally)
+    (step-starts, step-begins, step-inside, step-falls, step-less, heads-fit, charge-fits, letters-fit, step-tally)
 
 pub ruleset short-passed =
-    (short-starts, short-inside, short-falls, short-less, short-body-fits, short-charge-fits, short-letters-fit)
+    (short-starts, short-begins, short-inside, short-falls, short-less, short-heads-fit, short-charge-fits, short-letters-fit)
 
 pub ruleset tally-laws = (tally-begins, short-passed, short-tally, step-passed, tally-stops, tally-ends, needs)
 

@@ -345,13 +345,13 @@ fn too_long() -> TallyAnswer
 }
 
 // Counts the atoms of a file that is not too long. Each is read with the largest budget, which no charge exceeds: what it
-// takes of that is its charge.
+// takes of that is its charge. The bytes of the headers are counted, which are one of most atoms: the others are bodies.
 fn tally_within(source: &[u8]) -> TallyAnswer
     requires { ⌜ length (now source) ≤ 16_777_216 ⌝ }
     ensures { λ r. ⌜ r ≡ tallyFrom (suc (length (now (source .entry)))) (now (source .entry)) 0 nothing noPlaces ⌝ }
 {
     let mut atoms: u64 = 0;
-    let mut body = BodyBytes(0);
+    let mut heads: usize = 0;
     let mut charge: u64 = 0;
     let mut letters: u64 = 0;
     let mut first = Place(0);
@@ -362,7 +362,7 @@ fn tally_within(source: &[u8]) -> TallyAnswer
                 atoms += 1;
                 letters += letters_of(source, from, end, string);
                 charge += 0xFFFF_FFFF_FFFF_FFFF - rest.0;
-                body = BodyBytes(body.0 + (end.0 - from.0) as u64);
+                heads += from.0 - at.0;
                 first = at;
                 at = end;
                 continue;
@@ -374,13 +374,14 @@ fn tally_within(source: &[u8]) -> TallyAnswer
                 atoms += 1;
                 letters += letters_of(source, from, place, string);
                 charge += 0xFFFF_FFFF_FFFF_FFFF - rest.0;
-                body = BodyBytes(body.0 + (place.0 - from.0) as u64);
+                heads += from.0 - at.0;
                 first = at;
                 at = place;
             }
             Step::Refused(_, _, refusal) => return stopped(source, first, at, refusal),
         }
     }
+    let body = BodyBytes((at.0 - heads) as u64);
     return counted(last_places(source, first, at), atoms, body, charge, letters);
 }
 
