@@ -112,8 +112,9 @@ header-more at n end k a true e h x p kind arg f = let q : at + n ≡ p .0 = ap 
 header-more at n end k a false true h x p kind arg f = absurd (false≢true cc)
 header-more at n end k a false false h x p kind arg f = absurd (false≢true x)
 
-from-more : (way : Way) (s : List ℕ) (first : Place) (at : ℕ) (budget : Budget) (scratch : List ℕ) (h : HeaderAnswer) (p : Place)
-    (b : Budget) (x : Atom) → ((q : Place) (k : Kind) (n : ℕ) → h ≡ H.Read q k n → at < q .0) →
+from-more : (way : Way) (s : List ℕ) (first : Place) (at : ℕ) (budget : Budget) (scratch : List ℕ)
+    (h : HeaderAnswer) (p : Place) (b : Budget) (x : Atom) →
+    ((q : Place) (k : Kind) (n : ℕ) → h ≡ H.Read q k n → at < q .0) →
     headerPlace h ≤ length s → atomFrom way s first budget scratch h ≡ A.Read p b x → at < p .0
 from-more way s first at budget scratch (H.Read next kind arg) p b x f l e =
     let w = after-on way s arg first next budget scratch l kind in

@@ -83,6 +83,7 @@ bytes-back way before bytes after budget scratch l b r =
     atom-back way K.Bytes (length bytes) before (bytes ++ after) budget scratch l
     ∙ sym (judged-left K.Bytes (length bytes) next budget (bytesTaken way s (length bytes) first next scratch) left
     (paid budget (length bytes) b) refl)
-    ∙ ap (bytesAtom (length bytes) first next left) (ap (λ (p : ℕ). stringAnswer way s p (length bytes) scratch) (sym n) ∙ back .0)
+    ∙ ap (bytesAtom (length bytes) first next left)
+    (ap (λ (p : ℕ). stringAnswer way s p (length bytes) scratch) (sym n) ∙ back .0)
     ∙ ap (λ (p : ℕ). atomTaken K.Bytes (length bytes) first next left (record { 0 = p + length bytes })
     (N.Bytes (stringMark way p (length bytes)))) n

@@ -180,7 +180,8 @@ module _ (way : Way) (s : List ℕ) (arg : ℕ) (first next : Place) (budget : B
     (paid : BudgetAnswer) (p : paid ≡ budgetAfter budget arg) where
   -- the charge exceeds the budget, and scratch is as it was
   pub string-too-dear : (r : Refusal) → paid ≡ BA.Refused r →
-      A.Refused next budget R.TooManyBytesRead ≡ judged K.Bytes arg next budget (bytesTaken way s arg first next scratch)
+      A.Refused next budget R.TooManyBytesRead
+      ≡ judged K.Bytes arg next budget (bytesTaken way s arg first next scratch)
   string-too-dear r e = judged-dear K.Bytes arg next budget _ r (sym p ∙ e)
 
   pub scratch-kept : (r : Refusal) → paid ≡ BA.Refused r →

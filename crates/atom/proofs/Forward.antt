@@ -94,7 +94,8 @@ module _ (way : Way) (s : List ℕ) (arg : ℕ) (first next : Place) (budget : B
     header-on kind nucleus = record { not-back = le-refl (next .0); not-past = h; not-up = l }
 
     number-on : (n : NumberForm) → Onward (next .0) (length s) (budget .0) (numberTaken n way s arg first next rest)
-    number-on n = on (bodyLength (n .kind) arg) (leb (next .0 + bodyLength (n .kind) arg) (length s)) (exact way) refl _ _
+    number-on n =
+        on (bodyLength (n .kind) arg) (leb (next .0 + bodyLength (n .kind) arg) (length s)) (exact way) refl _ _
       where
         on : (count : ℕ) (t e : Bool) → leb (next .0 + count) (length s) ≡ t → (x y : Atom) →
             Onward (next .0) (length s) (budget .0)
@@ -112,7 +113,8 @@ module _ (way : Way) (s : List ℕ) (arg : ℕ) (first next : Place) (budget : B
         bytes-on (next .0) (length s) (budget .0) arg first next rest (stringAnswer way s (next .0) arg scratch)
         (subst (λ (n : ℕ). n ≤ stringPlace (stringAnswer way s (next .0) arg scratch)) same (w .0)) (w .1) l
 
-    taken-on : (kind : Kind) → Onward (next .0) (length s) (budget .0) (bodyTaken way s kind arg first next scratch rest)
+    taken-on : (kind : Kind) →
+        Onward (next .0) (length s) (budget .0) (bodyTaken way s kind arg first next scratch rest)
     taken-on K.Special = header-on K.Special _
     taken-on K.Int = rw (integer-taken way s arg first next K.Int rest) (number-on (integers K.Int))
     taken-on K.UInt = rw (integer-taken way s arg first next K.UInt rest) (number-on (integers K.UInt))
@@ -122,7 +124,8 @@ module _ (way : Way) (s : List ℕ) (arg : ℕ) (first next : Place) (budget : B
     taken-on K.Symbol = header-on K.Symbol _
     taken-on K.Bytes = string-on
 
-  pub after-on : (kind : Kind) → Onward (next .0) (length s) (budget .0) (atomAfter way s kind arg first next budget scratch)
+  pub after-on : (kind : Kind) →
+      Onward (next .0) (length s) (budget .0) (atomAfter way s kind arg first next budget scratch)
   after-on kind = judged-on kind (bodyTaken way s kind arg first next scratch) (λ rest l. taken-on rest l kind)
 
 from-on : (way : Way) (s : List ℕ) (first : Place) (at : ℕ) (budget : Budget) (scratch : List ℕ) (a : HeaderAnswer) →

@@ -96,7 +96,8 @@ module _ (way : Way) (s : List ℕ) (arg : ℕ) (first next : Place) where
     unfolding numberAfter
     integer-number budget = same-judged kind arg next budget _ _ integer-taken
 
-  pub float-taken : (rest : Budget) → floatTaken way s arg first next rest ≡ numberTaken floats way s arg first next rest
+  pub float-taken : (rest : Budget) →
+      floatTaken way s arg first next rest ≡ numberTaken floats way s arg first next rest
   unfolding floatBody
   float-taken rest =
       let n = bodyLength K.Float arg in

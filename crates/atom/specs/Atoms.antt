@@ -44,7 +44,8 @@ atomOf kind arg places nucleus = record { kind = kind; arg = arg; places = place
 
 -- an atom that was read: it starts at `first`, its body at `body`, and the place after it is the answer's
 abbrev pub atomTaken : Kind → ℕ → Place → Place → Budget → Place → Nucleus → AtomAnswer
-atomTaken kind arg first body rest after nucleus = A.Read after rest (atomOf kind arg (placesOf first body after) nucleus)
+atomTaken kind arg first body rest after nucleus =
+    A.Read after rest (atomOf kind arg (placesOf first body after) nucleus)
 
 -- what a special holds
 abbrev pub specialNucleus : Special → Nucleus
@@ -84,8 +85,8 @@ abbrev pub bytesAtom : ℕ → Place → Place → Budget → BytesAnswer → At
 bytesAtom arg first next rest (B.Read place mark) = atomTaken K.Bytes arg first next rest place (N.Bytes mark)
 bytesAtom arg first next rest (B.Refused place r) = A.Refused place rest r
 
--- what is taken of each, that starts at `first` and whose header ends at `next`, with the budget that is left: an atom of
--- its header only, and the bodies
+-- what is taken of each, that starts at `first` and whose header ends at `next`, with the budget that is left: an atom
+-- of its header only, and the bodies
 abbrev pub headerTaken : Kind → ℕ → Place → Place → Nucleus → Budget → AtomAnswer
 headerTaken kind arg first next nucleus rest = atomTaken kind arg first next rest next nucleus
 

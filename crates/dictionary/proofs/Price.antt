@@ -53,8 +53,8 @@ price-body (atom ∷ atoms) =
     let others = price-body atoms in
     omega arith
 
--- A WALK PASSES OVER WHOLE, KNOWN ATOMS, whatever it holds: after each, which stands at a place, what `next` makes of it,
--- as long as it covers them
+-- A WALK PASSES OVER WHOLE, KNOWN ATOMS, whatever it holds: after each, which stands at a place, what `next` makes of
+-- it, as long as it covers them
 unfoldable passed : {X : Type 0} → (ℕ → X → List ℕ → X) → ℕ → X → List (List ℕ) → X
 passed next at x [] = x
 passed next at x (atom ∷ atoms) = passed next (at + length atom) (next at x atom) atoms
@@ -87,8 +87,8 @@ walk-over walk next Covers turn s (more {atom} {rest} {atoms} w r) after fuel le
     let n : end ≡ at + length atom + length rest = omega (arith, length-append atom rest) in
     let t = turn s fuel (length atoms + left) at x atom (rest ++ after) atoms g (omega arith) within there w c in
     t .0
-    ∙ walk-over walk next Covers turn s r after (length atoms + left) left (at + length atom) end (next at x atom) refl n
-    inside (atom-next s at within atom (rest ++ after) there w) (t .1)
+    ∙ walk-over walk next Covers turn s r after (length atoms + left) left (at + length atom) end (next at x atom) refl
+    n inside (atom-next s at within atom (rest ++ after) there w) (t .1)
 
 -- THE TALLY adds what each has, and holds where the last of them stands
 abbrev count : ℕ → Tallying.Held → List ℕ → Tallying.Held
@@ -368,7 +368,8 @@ broken-at s front rest atoms why short w e some bad =
     (tally-over s w rest (suc (length s)) (suc (length s - length atoms)) 0 (length front) nothing noPlaces
     (omega arith) end (omega arith) e
     ∙ tally-stop s (suc (length s - length atoms)) (length s - length atoms) (length front) (summed nothing atoms)
-    (lastPlaces atoms) refl _ _ why (omega arith) (barred-refuses s (length front) within rest there unlimited (r .bars)))
+    (lastPlaces atoms) refl _ _ why (omega arith)
+    (barred-refuses s (length front) within rest there unlimited (r .bars)))
 
 pub tally-broken : (s : List ℕ) (b : Broken s) → length s ≤ mostBytes →
     tallyAll s ≡ TA.Stopped (lastPlaces (b .atoms)) (b .why) (record { 0 = length (b .front-bytes) })

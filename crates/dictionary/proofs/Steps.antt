@@ -116,8 +116,8 @@ charge-word K.Symbol arg h = omega arith
 charge-word K.Bytes arg h = omega arith
 
 -- the step goes past an atom: to a place, with so much of the budget left; the atom stands there and is a string or not
-pub record Past (s : List ℕ) (at : ℕ) (budget : Budget) (place : Place) (rest : Budget) (places : Places) (string : Bool)
-    : Type 0
+pub record Past (s : List ℕ) (at : ℕ) (budget : Budget) (place : Place) (rest : Budget) (places : Places)
+    (string : Bool) : Type 0
   where
     pub is : skipped s at budget ≡ SK.Past place rest places string
 
@@ -234,7 +234,8 @@ atom-placed way s place budget scratch =
     from-placed way s (firstPlace s place) budget scratch (headerRead way s place)
 
 -- so has the step, and the loops need not be told of it
-past-lean : (first : Place) (a : AtomAnswer) → Placed first a → (place : Place) (rest : Budget) (body : Place) (t : Bool) →
+past-lean : (first : Place) (a : AtomAnswer) → Placed first a → (place : Place) (rest : Budget) (body : Place)
+    (t : Bool) →
     lean (forgotten a) ≡ ST.Past place rest body t → forgotten a ≡ SK.Past place rest (placesOf first body place) t
 past-lean first (A.Read p b x) stand place rest body t e =
     let u : p ≡ place = cc in

@@ -203,9 +203,10 @@ pub ruleset step-passed =
     (step-starts, step-begins, step-inside, step-falls, step-less, heads-fit, charge-fits, letters-fit, step-tally)
 
 pub ruleset short-passed =
-    (short-starts, short-begins, short-inside, short-falls, short-less, short-heads-fit, short-charge-fits, short-letters-fit)
+    (short-starts, short-begins, short-inside, short-falls, short-less, short-heads-fit, short-charge-fits)
 
-pub ruleset tally-laws = (tally-begins, short-passed, short-tally, step-passed, tally-stops, tally-ends, needs)
+pub ruleset tally-laws =
+    (tally-begins, short-passed, short-letters-fit, short-tally, step-passed, tally-stops, tally-ends, needs)
 
 -- the length is judged before that
 module _ (s : List ℕ) (r : TallyAnswer) where

@@ -1,5 +1,5 @@
--- The run and the tally. Document 01, "Two ways of reading" and "Tally"; document 02, K1: "The run and the tally, refused
--- or not, answer the three places of the last atom they read, all 0 if there was none."
+-- The run and the tally. Document 01, "Two ways of reading" and "Tally"; document 02, K1: "The run and the tally,
+-- refused or not, answer the three places of the last atom they read, all 0 if there was none."
 use Prim.Native.Nat.{ℕ, zero, suc, _+_, _-_}
 use mathlib.Core.Bool.{Bool}
 use mathlib.Core.List.{List, []}
@@ -33,8 +33,8 @@ abbrev pub afterAtom : {X : Type 0} →
 afterAtom (A.Read place rest atom) on stop = on place rest (atom .places)
 afterAtom (A.Refused place rest r) on stop = stop place rest r
 
--- "until the place is the end of the slice or an atom is refused": on from a place, with so many atoms read, the last of
--- them there; at most `fuel` atoms
+-- "until the place is the end of the slice or an atom is refused": on from a place, with so many atoms read, the last
+-- of them there; at most `fuel` atoms
 unfoldable pub runFrom : ℕ → List ℕ → ℕ → Budget → ℕ → Places → Ran
 runFrom zero s at budget atoms last = RN.Done (record { 0 = at }) budget atoms last
 runFrom (suc fuel) s at budget atoms last =
@@ -71,8 +71,8 @@ added s t place rest body string =
     tallied (t .atoms + 1) (t .body .0 + (place - body)) (t .charge + (unlimited - rest))
     (t .letters + pick string (letters (take (place - body) (drop body s))) 0)
 
--- "fails at the first bad atom with 3, 4 or 6 and the place where that atom starts": on from a place, with the last atom
--- there; at most `fuel` atoms
+-- "fails at the first bad atom with 3, 4 or 6 and the place where that atom starts": on from a place, with the last
+-- atom there; at most `fuel` atoms
 unfoldable pub tallyFrom : ℕ → List ℕ → ℕ → Tallied → Places → TallyAnswer
 tallyFrom zero s at t last = TA.Done last t
 tallyFrom (suc fuel) s at t last =

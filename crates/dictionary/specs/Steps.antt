@@ -37,8 +37,8 @@ forgotten (A.Refused place rest r) = SK.Refused place rest r
 unfoldable pub skipped : List ℕ → ℕ → Budget → Skipped
 skipped source place budget = forgotten (atomRead W.ExactLent source place budget [])
 
--- What a body does in a source of `size` bytes, of an atom that starts at `first`, where the body starts at `at` with so
--- much of the budget left: "budget, then count allowed, then end of input".
+-- What a body does in a source of `size` bytes, of an atom that starts at `first`, where the body starts at `at` with
+-- so much of the budget left: "budget, then count allowed, then end of input".
 unfoldable pub bodyPast : ℕ → ℕ → ℕ → ℕ → Bool → ℕ → ℕ → Bool → Refusal → Skipped
 bodyPast size first at left string len charge allowed why =
     pick (ltb left charge) (SK.Refused (record { 0 = at }) (record { 0 = left }) R.TooManyBytesRead)

@@ -28,8 +28,8 @@ use types::Tallied;
 use types::TallyAnswer;
 use types::Way;
 
-// What the run and the tally are told of an atom: as the step that builds no value answers it, with the start of its body
-// alone of its places, since they hold the other two.
+// What the run and the tally are told of an atom: what the step that builds no value answers, with the start of its
+// body alone of its places, since they hold the other two.
 enum Step {
     Past(Place, Budget, Place, bool),
     Refused(Place, Budget, Refusal),
@@ -199,8 +199,8 @@ fn short_atom(source: &[u8], at: Place, left: Budget) -> Short
     return Short::Other;
 }
 
-// Where the last atom stands, of which a loop holds where it starts, and that it ends where the loop is: its header, read
-// again, tells the rest. Where there is none the loop is where it began.
+// Where the last atom stands, of which a loop holds where it starts, and that it ends where the loop is: its header,
+// read again, tells the rest. Where there is none the loop is where it began.
 fn last_places(source: &[u8], first: Place, at: Place) -> Places
     ensures { λ r. ⌜ r ≡ lastOf (now (source .entry)) first at ⌝ }
 {
@@ -344,8 +344,8 @@ fn too_long() -> TallyAnswer
     TallyAnswer::Refused(last, Refusal::TooLong)
 }
 
-// Counts the atoms of a file that is not too long. Each is read with the largest budget, which no charge exceeds: what it
-// takes of that is its charge. The bytes of the headers are counted, which are one of most atoms: the others are bodies.
+// Counts the atoms of a file that is not too long. Each is read with the largest budget, which no charge exceeds: what
+// it takes of that is its charge. The bytes of the headers are counted, one of most atoms: the others are bodies.
 fn tally_within(source: &[u8]) -> TallyAnswer
     requires { ⌜ length (now source) ≤ 16_777_216 ⌝ }
     ensures { λ r. ⌜ r ≡ tallyFrom (suc (length (now (source .entry)))) (now (source .entry)) 0 nothing noPlaces ⌝ }

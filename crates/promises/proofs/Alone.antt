@@ -1,6 +1,6 @@
--- THE BYTES FROM AN ATOM'S FIRST PLACE TO THE PLACE AFTER IT ARE THE ATOM: read alone, from place 0, they answer it again,
--- moved. Either all of it is there, header and body, and what stands behind changes nothing; or filled reading met the
--- end, and nothing stands behind.
+-- THE BYTES FROM AN ATOM'S FIRST PLACE TO THE PLACE AFTER IT ARE THE ATOM: read alone, from place 0, they answer it
+-- again, moved. Either all of it is there, header and body, and what stands behind changes nothing; or filled reading
+-- met the end, and nothing stands behind.
 use mathlib.Core.Path.{_≡_, refl, _∙_, sym, ap, subst}
 use mathlib.Core.Bool.{Bool, true, false, false≢true}
 use mathlib.Core.List.{List, _++_}

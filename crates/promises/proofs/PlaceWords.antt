@@ -1,6 +1,6 @@
--- The words of places that the exports answer, 8 to 10, are the places of the atom. Document 02, K1: "Each atom read is to
--- carry its first place, the place where its body starts and the place after it. The run and the tally, refused or not,
--- answer the three places of the last atom they read, all 0 if there was none." Where an atom stands is `Stands`.
+-- The words of places that the exports answer, 8 to 10, are the places of the atom. Document 02, K1: "Each atom read is
+-- to carry its first place, the place where its body starts and the place after it. The run and the tally, refused or
+-- not, answer the three places of the last atom they read, all 0 if there was none." Where an atom stands is `Stands`.
 use mathlib.Core.Path.{_≡_, refl, _∙_, sym, ap}
 use mathlib.Core.Bool.{Bool}
 use mathlib.Core.List.{List, [], _∷_}

@@ -146,7 +146,8 @@ module _ (way : Way) (s : List ℕ) (arg : ℕ) (first next : Place) (scratch : 
           its-places = refl;
           long = ap (λ (n : ℕ). n + arg) at ∙ sym (place-same (length s) (next .0 + arg) there);
           holds =
-              ap (λ (n : ℕ). N.Bytes (stringMark way n arg)) at ∙ ap (λ (n : ℕ). N.Bytes (stringMark way (next .0) n)) m;
+              ap (λ (n : ℕ). N.Bytes (stringMark way n arg)) at
+              ∙ ap (λ (n : ℕ). N.Bytes (stringMark way (next .0) n)) m;
         })
     string-carries (cut w) = rw (string-eof way s (next .0) arg scratch w .0) tt
     string-carries (cramped w r) = rw (string-no-room way s (next .0) arg scratch w r .0) tt

@@ -66,8 +66,8 @@ pub record Stands (way : Way) (s : List ℕ) (place : ℕ) (after : Place) (atom
       ≡ heldBy way (atom .kind) (atom .arg) (atom .places .body .0)
       (between s (atom .places .body .0) (atom .places .after .0))
 
--- "READING EACH ATOM FROM THE PLACE AFTER THE ONE BEFORE": the places of atoms that were read so, the first from a given
--- place; each read has a budget and a scratch of its own, and a way of its own among those that are allowed
+-- "READING EACH ATOM FROM THE PLACE AFTER THE ONE BEFORE": the places of atoms that were read so, the first from a
+-- given place; each read has a budget and a scratch of its own, and a way of its own among those that are allowed
 pub data Chain (Allowed : Way → Type 0) (s : List ℕ) : ℕ → List Places → Type 0 where
   ends : {place : ℕ} → Chain Allowed s place []
   reads : {place : ℕ} {after : Place} {left : Budget} {atom : Atom} {later : List Places} (way : Way) (budget : Budget)

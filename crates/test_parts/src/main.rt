@@ -1,8 +1,8 @@
 // Runs `reader::as_slice`, and the read of an atom that names no way. Each line written is the part that a mark says,
 // in brackets, or an atom's three places. What the program is held to was worked out from document 01's text apart from
-// it: "`as_slice` hands back a part of the source or of the scratch, as the delivery mark says; a mark reaching past the
-// slice it names gives the empty part at that slice's end", and "The entry that names no way is filled"; and from K1's:
-// "its first place, the place where its body starts and the place after it".
+// it: "`as_slice` hands back a part of the source or of the scratch, as the delivery mark says; a mark reaching past
+// the slice it names gives the empty part at that slice's end", and "The entry that names no way is filled"; and from
+// K1's: "its first place, the place where its body starts and the place after it".
 use libc::STDOUT_FILENO;
 use types::AtomAnswer;
 use types::Budget;

@@ -252,8 +252,8 @@ fn nucleus_words(arg: u64, nucleus: Nucleus) -> NucleusWords
     }
 }
 
-// An atom that was read. The place after it is said by the answer's own, which it is: the atom's would be one value more
-// to carry through the reader, and a call would take longer.
+// An atom that was read. The place after it is said by the answer's own, which it is: the atom's would be one value
+// more to carry through the reader, and a call would take longer.
 pub fn say_atom(words: &mut [u64], answer: AtomAnswer) -> u64
     ensures { λ r. ⌜ r ≡ numberOf (saidAtom answer) (now (words .entry)) ⌝ }
     ensures { λ r. ⌜ now (words .exit) ≡ wordsOf (saidAtom answer) (now (words .entry)) ⌝ }

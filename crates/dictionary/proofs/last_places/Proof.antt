@@ -1,4 +1,5 @@
--- `dictionary::last_places` meets its contract: no atom was read, or the header of the last one tells where its body starts.
+-- `dictionary::last_places` meets its contract: no atom was read, or the header of the last one tells where its body
+-- starts.
 use Rattle.dictionary.proofs.Ends.{last-ends}
 use Rattle.dictionary.proofs.last_places.Statement.{statement}
 use Rattle.dictionary.proofs.last_places.Tie as tie

@@ -12,4 +12,5 @@ pub answer-last-spec : {M : Type 1} → statement M
 answer-last-spec =
     tie.close
     (tie.spec
-    (λ c. search needs) (λ c. search needs) slice-write-out-2 (λ c. search needs) (λ c. search needs) (λ c. search needs))
+    (λ c. search needs) (λ c. search needs) slice-write-out-2 (λ c. search needs) (λ c. search needs)
+    (λ c. search needs))
