@@ -66,7 +66,8 @@ pub demand1 : (way : Way) (s : List ℕ) (place : ℕ) (budget : Budget) (scratc
 demand1 = Demand1.by-the-table
 
 -- At most one row fits: the table leaves one answer and one scratch.
-pub demand1-one : {way : Way} {s : List ℕ} {place : ℕ} {budget : Budget} {scratch : List ℕ} {header : HeaderAnswer}
+pub demand1-one : {way : Way} {s : List ℕ} {place : ℕ} {budget : Budget} {scratch : List ℕ}
+    {header : HeaderAnswer}
     {a b : Told} {t u : List ℕ} →
     Row way s place budget scratch header a t →
     Row way s place budget scratch header b u →
@@ -165,7 +166,9 @@ demand1-alone = Alone.alone
 
 -- and of any chain of reads, each from the place after the one before, all three rise or stay level; under exact
 -- reading the first place rises.
-pub demand1-chain : {s : List ℕ} {place : ℕ} {places : List Places} → Chain anyWay s place places → Each Level places
+pub demand1-chain : {s : List ℕ} {place : ℕ} {places : List Places} →
+    Chain anyWay s place places →
+    Each Level places
 demand1-chain = Stands.rises
 
 pub demand1-chain-exact : {s : List ℕ} {place : ℕ} {places : List Places} →
@@ -229,7 +232,8 @@ pub record Priced (s : List ℕ) (atoms : List (List ℕ)) : Type 0 where
       toldTally (tallyAll s)
       ≡ told 0
       (placesTold (lastPlaces atoms)
-      (pos (length atoms) ∷ pos (total bodyBytes atoms) ∷ pos (total price atoms) ∷ pos (total lettersIn atoms) ∷ []))
+      (pos (length atoms) ∷ pos (total bodyBytes atoms) ∷ pos (total price atoms) ∷
+      pos (total lettersIn atoms) ∷ []))
   -- any budget of at least C reads all and leaves the budget less C
   pub afforded : (budget : ℕ) → total price atoms ≤ budget →
       toldRan (runAll s (record { 0 = budget }))

@@ -70,8 +70,9 @@ pub record Stands (way : Way) (s : List ℕ) (place : ℕ) (after : Place) (atom
 -- given place; each read has a budget and a scratch of its own, and a way of its own among those that are allowed
 pub data Chain (Allowed : Way → Type 0) (s : List ℕ) : ℕ → List Places → Type 0 where
   ends : {place : ℕ} → Chain Allowed s place []
-  reads : {place : ℕ} {after : Place} {left : Budget} {atom : Atom} {later : List Places} (way : Way) (budget : Budget)
-      (scratch : List ℕ) → Allowed way → atomRead way s place budget scratch ≡ A.Read after left atom →
+  reads : {place : ℕ} {after : Place} {left : Budget} {atom : Atom} {later : List Places} (way : Way)
+      (budget : Budget) (scratch : List ℕ) → Allowed way →
+      atomRead way s place budget scratch ≡ A.Read after left atom →
       Chain Allowed s (after .0) later → Chain Allowed s place (atom .places ∷ later)
 
 abbrev pub anyWay : Way → Type 0
@@ -94,7 +95,8 @@ Ahead a b = a .first .0 < b .first .0
 pub data Each (Under : Places → Places → Type 0) : List Places → Type 0 where
   none : Each Under []
   one : {a : Places} → Each Under (a ∷ [])
-  more : {a b : Places} {later : List Places} → Under a b → Each Under (b ∷ later) → Each Under (a ∷ (b ∷ later))
+  more : {a b : Places} {later : List Places} → Under a b → Each Under (b ∷ later) →
+      Each Under (a ∷ (b ∷ later))
 
 -- THE SAME ATOM IN BYTES THAT START SO MUCH LATER: its places are less by that, and so is the start of a string that is
 -- lent, which is a place too

@@ -104,7 +104,8 @@ pub data Carries (source scratch : List ℕ) : Atom → Value → Type 0 where
   natural-carried : {arg : ℕ} {places : Places} {n : Integer} {k : ℕ} {h : k < 256 ^ 16} →
       value n ≡ pos k →
       Carries source scratch (atomOf K.UInt arg places (N.Integer n)) (natural k h)
-  integer-carried : {arg : ℕ} {places : Places} {n x : Integer} {h : inRange (sign x) (width x) (value x) ≡ true} →
+  integer-carried : {arg : ℕ} {places : Places} {n x : Integer}
+      {h : inRange (sign x) (width x) (value x) ≡ true} →
       value n ≡ value x →
       Carries source scratch (atomOf (kindOf (sign x)) arg places (N.Integer n)) (integer x h)
   f32-bits-carried : {arg : ℕ} {places : Places} {x : Float} {stored bits : ℕ} {h : bits < 256 ^ 4} →
