@@ -8,13 +8,14 @@ use lib.Dec.{ltb, eqb}
 use lib.ListN.{length, drop, getD}
 use lib.Seq.{drop-cons}
 use borrow.Author.Needs.{needs}
-use borrow.Author.Tests.{ltb-true, ltb-false, eq-eqb, ne-eqb}
+use borrow.Author.Tests.{ltb-true, ltb-false, eqb-true, ne-eqb}
 use Rattle.types.specs.Choice.{pick}
 use Rattle.types.specs.Kinds.{kindFrom, kindKnown}
 use Rattle.types.specs.Forms.{listed, allowedCount, numberCharge, known, bodyLength, chargeOf, isString, unknown}
 use Rattle.types.specs.declared.Kind.{Kind}
 use Rattle.types.specs.declared.Kind.the-variants as K
 use Rattle.types.specs.declared.Place.{Place}
+use Rattle.types.specs.declared.Places.{Places}
 use Rattle.types.specs.declared.Budget.{Budget}
 use Rattle.types.specs.declared.Refusal.{Refusal}
 use Rattle.types.specs.declared.Refusal.the-variants as R
@@ -29,9 +30,9 @@ use Rattle.dictionary.specs.declared.Short.{Short}
 use Rattle.dictionary.specs.declared.Short.the-variants as SH
 use Rattle.dictionary.specs.Steps.{skipped, bodyPast, bodyAfter, lean, stepped, bodyStep, pastAlone, shortByte}
 use Rattle.dictionary.specs.Steps.{shortStep}
-use Rattle.dictionary.proofs.Bodies.{over, afforded, past-over, past-eof, past-whole, any-first}
-use Rattle.dictionary.proofs.Steps.{step-body, Told, Telling, told, Starts, Begins, Inside, Falls, Less}
-use Rattle.dictionary.proofs.Steps.{starts, begins, inside, falls, less}
+use Rattle.dictionary.proofs.Bodies.{over, afforded, past-over, past-eof, past-whole, any-first, passed}
+use Rattle.dictionary.proofs.Steps.{step-body, told-past, Told, Telling, told, Starts, Inside, Falls, Less}
+use Rattle.dictionary.proofs.Steps.{starts, inside, falls, less}
 
 -- a known body after a header of one byte
 module _ (size : ℕ) (at : Place) (left : Budget) (string : Bool) (len charge : ℕ) where
@@ -164,12 +165,40 @@ pub by-first : Telling shortStep SH.Past
 unfolding shortStep
 by-first s at left place rest body t e = past-at place rest body t (shortByte (getD s at 0)) (stepped s at left) e
 
+-- its header is that byte alone
+one-byte : (b : ℕ) (t u v : Bool) → eqb b 0x40 ≡ t → eqb (b / 16) 14 ≡ u → eqb (b / 16) 8 ≡ v →
+    pick t true (pick u true v) ≡ true → moreFollow b ≡ false
+one-byte b true u v e f g k = ap moreFollow (eqb-true b 0x40 e)
+one-byte b false true v e f g k = ap (λ (n : ℕ). eqb (n % 2) 1) (eqb-true (b / 16) 14 f)
+one-byte b false false true e f g k = ap (λ (n : ℕ). eqb (n % 2) 1) (eqb-true (b / 16) 8 g)
+one-byte b false false false e f g k = absurd (false≢true k)
+
+passed-first : (place : Place) (rest : Budget) (body : Place) (t u : Bool) (step : Step) →
+    pick u (pastAlone step) SH.Other ≡ SH.Past place rest body t → u ≡ true
+passed-first place rest body t true step e = refl
+passed-first place rest body t false step e = absurd (false≢true cc)
+
+module _ (s : List ℕ) (at : Place) (left : Budget) (r : Short) (place : Place) (rest : Budget) (body : Place)
+    (t : Bool) where
+  first-byte : shortStep s (at .0) left ≡ SH.Past place rest body t → shortByte (getD s (at .0) 0) ≡ true
+  unfolding shortStep
+  first-byte e = passed-first place rest body t (shortByte (getD s (at .0) 0)) (stepped s (at .0) left) e
+
+  pub short-alone : r ≡ shortStep s (at .0) left → r ≡ SH.Past place rest body t → at .0 < length s →
+      body .0 ≡ at .0 + 1
+  short-alone q p h =
+      let b = getD s (at .0) 0 in
+      let e = sym q ∙ p in
+      let m = one-byte b (eqb b 0x40) (eqb (b / 16) 14) (eqb (b / 16) 8) refl refl refl (first-byte e) in
+      let x =
+      sym (alone s (at .0) left h m)
+      ∙ told-past s (at .0) left place rest body t (by-first s (at .0) left place rest body t e)
+      in
+      ap (λ (y : Places). y .body .0) (passed _ _ _ _ _ _ _ _ place rest _ t _ x .stands)
+
 -- so the loops have of it what they have of a step
 pub short-starts : Told shortStep SH.Past Starts
 short-starts = told shortStep SH.Past by-first Starts starts
-
-pub short-begins : Told shortStep SH.Past Begins
-short-begins = told shortStep SH.Past by-first Begins begins
 
 pub short-inside : Told shortStep SH.Past Inside
 short-inside = told shortStep SH.Past by-first Inside inside

@@ -345,13 +345,13 @@ fn too_long() -> TallyAnswer
 }
 
 // Counts the atoms of a file that is not too long. Each is read with the largest budget, which no charge exceeds: what
-// it takes of that is its charge. The bytes of the headers are counted, one of most atoms: the others are bodies.
+// it takes of that is its charge. What is no header is a body: the headers, one of each atom, and their bytes are
+// counted, in one number, by 2^30 and by 1, so that the loop has no more to hold than a processor has registers.
 fn tally_within(source: &[u8]) -> TallyAnswer
     requires { ⌜ length (now source) ≤ 16_777_216 ⌝ }
     ensures { λ r. ⌜ r ≡ tallyFrom (suc (length (now (source .entry)))) (now (source .entry)) 0 nothing noPlaces ⌝ }
 {
-    let mut atoms: u64 = 0;
-    let mut heads: usize = 0;
+    let mut headers: u64 = 0;
     let mut charge: u64 = 0;
     let mut letters: u64 = 0;
     let mut first = Place(0);
@@ -359,10 +359,9 @@ fn tally_within(source: &[u8]) -> TallyAnswer
     while at.0 < source.len() {
         match short_atom(source, at, Budget(0xFFFF_FFFF_FFFF_FFFF)) {
             Short::Past(end, rest, from, string) => {
-                atoms += 1;
                 letters += letters_of(source, from, end, string);
                 charge += 0xFFFF_FFFF_FFFF_FFFF - rest.0;
-                heads += from.0 - at.0;
+                headers += 0x4000_0001;
                 first = at;
                 at = end;
                 continue;
@@ -371,17 +370,17 @@ fn tally_within(source: &[u8]) -> TallyAnswer
         }
         match step_atom(source, at, Budget(0xFFFF_FFFF_FFFF_FFFF)) {
             Step::Past(place, rest, from, string) => {
-                atoms += 1;
                 letters += letters_of(source, from, place, string);
                 charge += 0xFFFF_FFFF_FFFF_FFFF - rest.0;
-                heads += from.0 - at.0;
+                headers += 0x4000_0000 + (from.0 - at.0) as u64;
                 first = at;
                 at = place;
             }
             Step::Refused(_, _, refusal) => return stopped(source, first, at, refusal),
         }
     }
-    let body = BodyBytes((at.0 - heads) as u64);
+    let atoms = headers / 0x4000_0000;
+    let body = BodyBytes(at.0 as u64 - headers % 0x4000_0000);
     return counted(last_places(source, first, at), atoms, body, charge, letters);
 }
 

@@ -9,11 +9,11 @@ use Rattle.dictionary.proofs.tally_within.Statement.{statement}
 use Rattle.dictionary.proofs.tally_within.Tie as tie
 
 abbrev Inv-loop : tie.InvT-loop
-Inv-loop source atoms₀ heads₀ charge₀ letters₀ first₀ at₀ atoms heads charge letters first at =
-    Tallying source atoms heads charge letters (at .0) (lastOf source first at)
+Inv-loop source headers₀ charge₀ letters₀ first₀ at₀ headers charge letters first at =
+    Tallying source headers charge letters (at .0) (lastOf source first at)
 
 abbrev μ-loop : tie.MeasureT-loop
-μ-loop source atoms₀ heads₀ charge₀ letters₀ first₀ at₀ atoms heads charge letters first at =
+μ-loop source headers₀ charge₀ letters₀ first₀ at₀ headers charge letters first at =
     length source - at .0
 
 -- two facts, each searched for by itself: for both at once the search would break off
@@ -35,10 +35,9 @@ tally-within-spec =
     tie.close
     (tie.spec
     Inv-loop μ-loop (λ c. search tally-laws) (λ c κs. search tally-laws) (λ c. search tally-laws)
-    (λ c. search tally-laws) (λ c κs. search tally-laws) (λ c. search tally-laws) (λ c. search tally-laws)
+    (λ c κs. search tally-laws) (λ c. search tally-laws) (λ c. search tally-laws) (λ c. search tally-laws)
     (λ c. search tally-laws) (λ c. search tally-laws) (λ c. search tally-laws) (λ c. search tally-laws)
-    (λ c. search tally-laws) (λ c. search tally-laws) (λ c κs. search tally-laws) (λ c. search tally-laws)
-    (λ c. search tally-laws) letters-of-requires-2 (λ c. search tally-laws) (λ c. search tally-laws)
-    (λ c. search tally-laws) (λ c. search tally-laws) (λ c. search tally-laws) (λ c. search tally-laws) loop-again-2
-    (λ c. search tally-laws) (λ c κs. search tally-laws) returns (λ c. search tally-laws) (λ c κs. search tally-laws)
-    (λ c κs. search tally-laws) returns-2)
+    (λ c κs. search tally-laws) (λ c. search tally-laws) letters-of-requires-2 (λ c. search tally-laws)
+    (λ c. search tally-laws) (λ c. search tally-laws) (λ c. search tally-laws) (λ c. search tally-laws)
+    (λ c. search tally-laws) (λ c. search tally-laws) loop-again-2 (λ c. search tally-laws) (λ c κs. search tally-laws)
+    returns (λ c. search tally-laws) (λ c κs. search tally-laws) (λ c κs. search tally-laws) returns-2)
