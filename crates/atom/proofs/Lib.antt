@@ -4,3 +4,4 @@ pub mod Ends
 pub mod Back
 pub mod Forward
 pub mod Agree
+pub mod Placed

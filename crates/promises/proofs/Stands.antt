@@ -1,5 +1,6 @@
 -- Where an atom stands that was read, and that the places of a chain of reads rise or stay level. It rests on the
--- definition of one atom, kind by kind, and on `atom.Forward`: the place never falls and never passes the end.
+-- definition of one atom, kind by kind, on `atom.Forward`, that the place never falls and never passes the end, and on
+-- `atom.Placed`.
 use mathlib.Core.Path.{_≡_, refl, _∙_, sym, ap, subst}
 use mathlib.Core.Bool.{Bool, true, false, false≢true}
 use mathlib.Core.List.{List, [], _∷_}
@@ -11,7 +12,7 @@ use lib.Seq.{take-all, length-take-le}
 use borrow.Author.Tests.{lt-ltb, leb-true, leb-false}
 use Rattle.types.specs.Choice.{pick}
 use Rattle.types.specs.Ways.{exact}
-use Rattle.types.specs.Counters.{placeIn, placesOf}
+use Rattle.types.specs.Counters.{placeIn}
 use Rattle.types.specs.Forms.{known, bodyLength, chargeOf, unknown}
 use Rattle.types.proofs.Counters.{place-within, place-same}
 use Rattle.types.specs.declared.Way.{Way}
@@ -38,25 +39,27 @@ use Rattle.reader.specs.Strings.{startOf, stringMark}
 use Rattle.reader.proofs.Strings.{start-same}
 use Rattle.reader.proofs.Delivered.{Outcome, whole, cut, cramped, outcome, string-read, string-eof, string-no-room}
 use Rattle.atom.specs.Charges.{budgetAfter}
-use Rattle.atom.specs.Atoms.{atomTaken, headerTaken, bytesTaken, bodyTaken, charged, judged, atomAfter, atomFrom, atomRead}
-use Rattle.atom.specs.Atoms.{firstPlace}
+use Rattle.atom.specs.Atoms.{atomTaken, headerTaken, bytesTaken, bodyTaken, charged, judged, atomAfter, atomFrom}
+use Rattle.atom.specs.Atoms.{atomRead, firstPlace}
 use Rattle.atom.proofs.Numbers.{NumberForm, integers, floats, numberTaken, integer-taken, float-taken}
 use Rattle.atom.proofs.Forward.{atomPlace, atom-on, after-on}
 use Rattle.atom.proofs.Agree.{exact-more}
-use Rattle.promises.specs.Placed.{between, heldBy, Stands, Chain, ends, reads, anyWay, exactly, Level, Ahead, Each, none, one, more}
+use Rattle.atom.proofs.Placed.{Placed, atom-placed}
+use Rattle.promises.specs.Placed.{between, heldBy, Stands, Chain, ends, reads, exactly, Level, Ahead, Each}
+use Rattle.promises.specs.Placed.{none, one, more}
 
 -- a place past the end counts as the end
 past-end : (n place : ℕ) → n < place → placeIn n place ≡ n
 past-end n place h = simp (lt-ltb n place h)
 
--- WHAT AN ATOM THAT WAS READ CARRIES, past its header: the header's kind and argument, its places, a body as long as
--- they say, as far as the source goes, and what that holds
+-- WHAT AN ATOM THAT WAS READ CARRIES, past its header: the header's kind and argument, where its body starts, a body as
+-- long as they say, as far as the source goes, and what that holds
 pub record Carried (way : Way) (s : List ℕ) (first next : Place) (kind : Kind) (arg : ℕ) (after : Place) (atom : Atom)
     : Type 0
   where
     pub its-kind : atom .kind ≡ kind
     pub its-argument : atom .arg ≡ arg
-    pub its-places : atom .places ≡ placesOf first next after
+    pub its-body : atom .places .body ≡ next
     pub long : after .0 ≡ placeIn (length s) (next .0 + bodyLength kind arg)
     pub holds : atom .nucleus ≡ heldBy way kind arg (next .0) (between s (next .0) (after .0))
 
@@ -83,7 +86,7 @@ module _ (way : Way) (s : List ℕ) (arg : ℕ) (first next : Place) (scratch : 
         record {
           its-kind = refl;
           its-argument = refl;
-          its-places = refl;
+          its-body = refl;
           long = sym (ap (placeIn (length s)) n ∙ place-same (length s) (next .0) within);
           holds = plain (between s (next .0) (next .0));
         }
@@ -106,7 +109,7 @@ module _ (way : Way) (s : List ℕ) (arg : ℕ) (first next : Place) (scratch : 
         by count c true e f = record {
           its-kind = refl;
           its-argument = refl;
-          its-places = refl;
+          its-body = refl;
           long =
               sym (ap (λ (m : ℕ). placeIn (length s) (next .0 + m)) c
               ∙ place-same (length s) (next .0 + count) (leb-true (next .0 + count) (length s) f));
@@ -121,7 +124,7 @@ module _ (way : Way) (s : List ℕ) (arg : ℕ) (first next : Place) (scratch : 
             record {
               its-kind = refl;
               its-argument = refl;
-              its-places = refl;
+              its-body = refl;
               long =
                   sym (ap (λ (m : ℕ). placeIn (length s) (next .0 + m)) c
                   ∙ past-end (length s) (next .0 + count) out);
@@ -143,7 +146,7 @@ module _ (way : Way) (s : List ℕ) (arg : ℕ) (first next : Place) (scratch : 
         (record {
           its-kind = refl;
           its-argument = refl;
-          its-places = refl;
+          its-body = refl;
           long = ap (λ (n : ℕ). n + arg) at ∙ sym (place-same (length s) (next .0 + arg) there);
           holds =
               ap (λ (n : ℕ). N.Bytes (stringMark way n arg)) at
@@ -184,15 +187,15 @@ module _ (way : Way) (s : List ℕ) (place : ℕ) (budget : Budget) (scratch : L
     (atom : Atom) where
   carried : (next : Place) (kind : Kind) (arg : ℕ) → headerRead way s place ≡ H.Read next kind arg →
       placeIn (length s) place ≤ next .0 → next .0 ≤ after .0 → after .0 ≤ length s →
+      Placed (firstPlace s place) (A.Read after left atom) →
       Carried way s (firstPlace s place) next kind arg after atom → Stands way s place after atom
-  carried next kind arg header from on to c =
+  carried next kind arg header from on to p c =
       let k = c .its-kind in
       let a = c .its-argument in
-      let p = c .its-places in
       let l = c .long in
       let h = c .holds in
       let f : atom .places .first .0 ≡ placeIn (length s) place = ap (λ (x : Places). x .first .0) p in
-      let b : atom .places .body ≡ next = ap (λ (x : Places). x .body) p in
+      let b = c .its-body in
       let n : atom .places .body .0 ≡ next .0 = ap (λ (x : Place). x .0) b in
       let e : atom .places .after ≡ after = ap (λ (x : Places). x .after) p in
       let m : atom .places .after .0 ≡ after .0 = ap (λ (x : Place). x .0) e in
@@ -208,21 +211,22 @@ module _ (way : Way) (s : List ℕ) (place : ℕ) (budget : Budget) (scratch : L
       }
 
   by-header : (h : HeaderAnswer) → headerRead way s place ≡ h → placeIn (length s) place ≤ headerPlace h →
-      headerPlace h ≤ length s → after .0 ≤ length s →
+      headerPlace h ≤ length s → after .0 ≤ length s → Placed (firstPlace s place) (A.Read after left atom) →
       atomFrom way s (firstPlace s place) budget scratch h ≡ A.Read after left atom → Stands way s place after atom
-  by-header (H.Read next kind arg) header from within to e =
+  by-header (H.Read next kind arg) header from within to p e =
       let on = after-on way s arg (firstPlace s place) next budget scratch within kind .not-back in
-      carried next kind arg header from (subst (λ (a : AtomAnswer). next .0 ≤ atomPlace a) e on) to
+      carried next kind arg header from (subst (λ (a : AtomAnswer). next .0 ≤ atomPlace a) e on) to p
       (subst (Carries way s (firstPlace s place) next kind arg) e
       (after-carries way s arg (firstPlace s place) next scratch within kind budget))
-  by-header (H.Refused end r) header from within to e = absurd (false≢true cc)
+  by-header (H.Refused end r) header from within to p e = absurd (false≢true cc)
 
   pub stands : atomRead way s place budget scratch ≡ A.Read after left atom → Stands way s place after atom
   unfolding atomRead
   stands e =
       let w = header-place way s (placeIn (length s) place) (place-within (length s) place) in
       let to = atom-on way s place budget scratch .not-past in
-      by-header (headerRead way s place) refl (w .0) (w .1) (subst (λ (a : AtomAnswer). atomPlace a ≤ length s) e to) e
+      by-header (headerRead way s place) refl (w .0) (w .1) (subst (λ (a : AtomAnswer). atomPlace a ≤ length s) e to)
+      (subst (Placed (firstPlace s place)) e (atom-placed way s place budget scratch)) e
 
 -- A CHAIN: the first atom starts where reading starts, each other where the one before it ends
 starts : {Allowed : Way → Type 0} {s : List ℕ} {place : ℕ} {a : Places} {later : List Places} →
