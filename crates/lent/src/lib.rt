@@ -75,9 +75,9 @@ fn copy_few(out: &mut [u8], source: &[u8])
     out[size - 1] = third;
 }
 
-// Copies at most sixteen bytes that have their room, so that few branches hang on their count.
+// Copies at most fifteen bytes that have their room, so that few branches hang on their count.
 fn copy_short(out: &mut [u8], source: &[u8])
-    requires { ⌜ length (now source) < 17 ⌝ }
+    requires { ⌜ length (now source) < 16 ⌝ }
     requires { ⌜ length (now source) ≤ length (now out) ⌝ }
     ensures { λ r. ⌜ now (out .exit) ≡ copiedOver (now (source .entry)) (now (out .entry)) ⌝ }
 {
@@ -91,6 +91,19 @@ fn copy_short(out: &mut [u8], source: &[u8])
         return;
     }
     copy_ends(out, source, 8);
+}
+
+// Copies 16 to 64 bytes that have their room.
+fn copy_middle(out: &mut [u8], source: &[u8])
+    requires { ⌜ (16 ≤ length (now source)) × (length (now source) < 65) ⌝ }
+    requires { ⌜ length (now source) ≤ length (now out) ⌝ }
+    ensures { λ r. ⌜ now (out .exit) ≡ copiedOver (now (source .entry)) (now (out .entry)) ⌝ }
+{
+    if source.len() < 33 {
+        copy_ends(out, source, 16);
+        return;
+    }
+    copy_ends(out, source, 32);
 }
 
 // Copies a source of any length that has its room: as one piece, or else its halves. It calls itself, so that it stays
@@ -116,16 +129,12 @@ pub fn copy_in(out: &mut [u8], source: &[u8])
     ensures { λ r. ⌜ now (out .exit) ≡ copiedOver (now (source .entry)) (now (out .entry)) ⌝ }
 {
     let size = source.len();
-    if size < 17 {
+    if size < 16 {
         copy_short(out, source);
         return;
     }
-    if size < 33 {
-        copy_ends(out, source, 16);
-        return;
-    }
     if size < 65 {
-        copy_ends(out, source, 32);
+        copy_middle(out, source);
         return;
     }
     if size <= 4096 {
