@@ -7,6 +7,9 @@ fn lengths() -> impl Iterator<Item = usize> {
     (0..=130).chain(2_040..=2_056).chain(4_090..=4_102).chain(8_186..=8_200).chain([20_000])
 }
 
+/// What a lent buffer holds before; no text has it.
+const KEPT: u8 = 0xFE;
+
 /// A text of so many bytes in which no byte is that of its neighbours.
 fn text(length: usize) -> Vec<u8> {
     (0..length).map(|i| (i % 251) as u8).collect()
@@ -14,7 +17,6 @@ fn text(length: usize) -> Vec<u8> {
 
 #[test]
 fn strings_are_written_and_read_back() -> Result<(), Stopped> {
-    const KEPT: u8 = 0xFE;
     for length in lengths() {
         let string = text(length);
         let mut out = vec![KEPT; length + 16];
@@ -38,9 +40,9 @@ fn a_string_without_room_is_not_begun() {
     for length in lengths() {
         let string = text(length);
         let needed = write_bytes(&mut vec![0; length + 16], &string).unwrap();
-        let mut out = vec![0xFE; needed - 1];
+        let mut out = vec![KEPT; needed - 1];
         assert_eq!(write_bytes(&mut out, &string).unwrap_err().number(), 9, "length {length}");
-        assert!(out.iter().all(|&byte| byte == 0xFE), "length {length}");
+        assert!(out.iter().all(|&byte| byte == KEPT), "length {length}");
         assert_eq!(write_bytes(&mut vec![0; needed], &string), Ok(needed));
     }
 }
