@@ -1,8 +1,8 @@
+pub mod Lettered
 pub mod Bodies
 pub mod Ends
 pub mod Steps
 pub mod Shorts
-pub mod Letters
 pub mod Turns
 pub mod Tallying
 pub mod Running

@@ -20,7 +20,7 @@ use Rattle.types.specs.declared.Refusal.the-variants as R
 use Rattle.types.specs.declared.Tallied.{Tallied}
 use Rattle.types.specs.declared.TallyAnswer.{TallyAnswer}
 use Rattle.types.specs.declared.TallyAnswer.the-variants as TA
-use Rattle.dictionary.specs.Letters.{letters}
+use Rattle.letters.specs.Letters.{letters}
 use Rattle.dictionary.specs.declared.Step.{Step}
 use Rattle.dictionary.specs.declared.Step.the-variants as ST
 use Rattle.dictionary.specs.declared.Short.{Short}

@@ -20,7 +20,7 @@ use Rattle.types.specs.declared.Skipped.the-variants as SK
 use Rattle.types.specs.declared.Tallied.{Tallied}
 use Rattle.header.specs.Header.{headerKind, headerArgument, headerLength}
 use Rattle.header.proofs.Fewest.{length-bounds, argument-word}
-use Rattle.dictionary.specs.Letters.{letters}
+use Rattle.letters.specs.Letters.{letters}
 use Rattle.dictionary.specs.Wholes.{IsAtom, price, bodyBytes, lettersIn, placesAt, Spoilt}
 use Rattle.dictionary.specs.Wholes.{cut-header, not-known, cut-body}
 use Rattle.dictionary.specs.Prices.{asked, Barred, header-cut, over-budget, form-unknown, body-cut}

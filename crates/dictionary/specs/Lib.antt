@@ -1,4 +1,3 @@
-pub mod Letters
 pub mod Wholes
 pub mod Steps
 pub mod Runs

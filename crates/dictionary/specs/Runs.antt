@@ -23,7 +23,7 @@ use Rattle.types.specs.declared.Tallied.{Tallied}
 use Rattle.types.specs.declared.TallyAnswer.{TallyAnswer}
 use Rattle.types.specs.declared.TallyAnswer.the-variants as TA
 use Rattle.atom.specs.Atoms.{atomRead}
-use Rattle.dictionary.specs.Letters.{letters}
+use Rattle.letters.specs.Letters.{letters}
 use Rattle.dictionary.specs.Steps.{skipped}
 
 -- what follows an atom that was read, at the place after it with the budget left and its places; what follows one that

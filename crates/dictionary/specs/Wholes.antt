@@ -12,7 +12,7 @@ use Rattle.types.specs.declared.Places.{Places}
 use Rattle.types.specs.declared.Refusal.{Refusal}
 use Rattle.types.specs.declared.Refusal.the-variants as R
 use Rattle.header.specs.Header.{headerKind, headerArgument, headerLength}
-use Rattle.dictionary.specs.Letters.{letters}
+use Rattle.letters.specs.Letters.{letters}
 
 -- A WHOLE, KNOWN ATOM: these bytes are its header and its body, no more
 pub record IsAtom (bytes : List ℕ) : Type 0 where

@@ -1,5 +1,5 @@
 // A dictionary file: the step that builds no value, the run over a file's atoms, and the tally. Document 01, "Two ways
-// of reading" and "Tally"; document 02, K1.
+// of reading" and "Tally"; document 02, K1 and K2.
 ghost use mathlib.Core.Path.{_≡_};
 ghost use mathlib.Core.Bool.{true, false};
 ghost use Prim.Native.Nat.{suc, _≤_, _<_, _+_, _-_};
@@ -9,7 +9,7 @@ ghost use Rattle.types.specs.Counters.{placesOf, noPlaces};
 ghost use Rattle.types.specs.Forms.{numberCharge, unsupported};
 ghost use Rattle.types.specs.declared.Refusal.the-variants as R;
 ghost use Rattle.types.specs.declared.TallyAnswer.the-variants as TA;
-ghost use Rattle.dictionary.specs.Letters.{letter, letters};
+ghost use Rattle.letters.specs.Letters.{letters};
 ghost use Rattle.dictionary.specs.Steps.{skipped, stepped, bodyStep, stepAfter, pastAlone, shortStep, lastOf};
 ghost use Rattle.dictionary.specs.Runs.{runAll, tallied, tallyFrom, nothing, tallyAll};
 use types::BodyBytes;
@@ -248,55 +248,6 @@ pub fn run(source: &[u8], budget: Budget) -> Ran
     return Ran::Done(at, left, atoms, last_places(source, first, at));
 }
 
-// 1 for a letter, else 0: a choice without a branch, so that a loop over it takes many bytes at a time.
-fn letter_of(byte: u8) -> u8
-    ensures { λ r. ⌜ (r ≡ letter byte) × (r ≤ 1) ⌝ }
-{
-    if byte < 0x80 {
-        return 1;
-    }
-    if 0xBF < byte { 1 } else { 0 }
-}
-
-// The letters of a part that is short enough for a byte to count them.
-fn letters_in_part(part: &[u8]) -> u8
-    requires { ⌜ length (now part) ≤ 192 ⌝ }
-    ensures { λ r. ⌜ (r ≡ letters (now (part .entry))) × (r ≤ length (now (part .entry))) ⌝ }
-{
-    let mut count: u8 = 0;
-    let mut i: usize = 0;
-    while i < part.len() {
-        count += letter_of(part[i]);
-        i += 1;
-    }
-    count
-}
-
-// Where the part from `i` on ends: after 192 bytes, or at the end.
-fn part_end(length: usize, i: usize) -> usize
-    requires { ⌜ i < length ⌝ }
-    ensures { λ r. ⌜ (i < r) × (r ≤ length) × (r ≤ i + 192) ⌝ }
-{
-    if 192 < length - i {
-        return i + 192;
-    }
-    length
-}
-
-// The letters of a string, part by part.
-pub fn count_letters(string: &[u8]) -> u64
-    ensures { λ r. ⌜ (r ≡ letters (now (string .entry))) × (r ≤ length (now (string .entry))) ⌝ }
-{
-    let mut count: u64 = 0;
-    let mut i: usize = 0;
-    while i < string.len() {
-        let end = part_end(string.len(), i);
-        count += letters_in_part(&string[i..end]) as u64;
-        i = end;
-    }
-    count
-}
-
 // The letters of an atom's body, none if it is no string.
 fn letters_of(source: &[u8], from: Place, to: Place, string: bool) -> u64
     requires { ⌜ (from .0 ≤ to .0) × (to .0 ≤ length (now source)) ⌝ }
@@ -307,7 +258,7 @@ fn letters_of(source: &[u8], from: Place, to: Place, string: bool) -> u64
     if string {
         let start = from.0;
         let end = to.0;
-        return count_letters(&source[start..end]);
+        return letters::count_letters(&source[start..end]);
     }
     0
 }

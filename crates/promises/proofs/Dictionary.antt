@@ -1,6 +1,4 @@
 -- One result for each contract of `dictionary`, and one content of each lent buffer.
-use Rattle.dictionary.proofs.count_letters as count-letters
-use Rattle.dictionary.proofs.count_letters.Reads as count-letters-reads
 use Rattle.dictionary.proofs.run as run
 use Rattle.dictionary.proofs.run.Reads as run-reads
 use Rattle.dictionary.proofs.skip_atom as skip-atom
@@ -15,9 +13,6 @@ skip-atom-one κs a r₁ r₂ s₁ s₂ p q = (p ∙ sym q, refl)
 
 pub run-one : One run.ended run-reads.Post (λ κs s. tt {0})
 run-one κs a r₁ r₂ s₁ s₂ p q = (p ∙ sym q, refl)
-
-pub count-letters-one : One count-letters.ended count-letters-reads.Post (λ κs s. tt {0})
-count-letters-one κs a r₁ r₂ s₁ s₂ p q = (p .0 ∙ sym (q .0), refl)
 
 pub tally-one : One tally.ended tally-reads.Post (λ κs s. tt {0})
 tally-one κs a r₁ r₂ s₁ s₂ p q = (p ∙ sym q, refl)

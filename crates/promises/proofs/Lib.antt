@@ -11,6 +11,7 @@ pub mod Writers
 pub mod Float
 pub mod FloatCast
 pub mod Atom
+pub mod Letters
 pub mod Dictionary
 pub mod SliceReader
 pub mod Report

@@ -30,10 +30,10 @@ use Rattle.lent.specs.Lent.{writtenAnswer, writtenContent}
 use Rattle.lent.proofs.Stores.{answer-room, content-room}
 use Rattle.header.specs.Header.{headerKind, headerLength}
 use Rattle.header.specs.Signature.{versionRead, versionFrom, judged, everyBit, bigEndian, signature}
-use Rattle.dictionary.specs.Letters.{letters}
+use Rattle.letters.specs.Letters.{letters}
 use Rattle.dictionary.specs.Wholes.{IsAtom, bodyBytes, lettersIn, Atoms, none, more, total}
 use Rattle.dictionary.specs.Runs.{tallyAll}
-use Rattle.dictionary.proofs.Letters.{letters-most}
+use Rattle.letters.proofs.Letters.{letters-most}
 use Rattle.dictionary.specs.Prices.{priced, Made, Broken}
 use Rattle.dictionary.proofs.Price.{atoms-most, price-body, tally-priced, tally-broken}
 use Rattle.dictionary.proofs.Price as price

@@ -1,0 +1,134 @@
+// The letters of a string. Document 01, "Tally", by document 02, K2: a byte outside 0x80 to 0xBF is a letter, but for the
+// first byte of a pair that is a combining mark.
+ghost use mathlib.Core.Path.{_≡_};
+ghost use Prim.Native.Nat.{_≤_, _<_, _+_};
+ghost use lib.ListN.{length, drop};
+ghost use Rattle.letters.specs.Letters.{one, between, letter, mark, lead, letters};
+
+// The letters of a part, as far as its bytes alone tell them, and how many of its bytes may begin a mark.
+struct Part {
+    letters: u8,
+    leads: u8,
+}
+
+// 1 for a byte outside 0x80 to 0xBF, else 0: a choice without a branch, so that a loop over it takes many bytes at a time.
+fn letter_of(byte: u8) -> u8
+    ensures { λ r. ⌜ (r ≡ letter byte) × (r ≤ 1) ⌝ }
+{
+    if byte < 0x80 {
+        return 1;
+    }
+    if 0xBF < byte { 1 } else { 0 }
+}
+
+// 1 for a byte that a mark may begin with, else 0.
+fn lead_of(byte: u8) -> u8
+    ensures { λ r. ⌜ (r ≡ one (lead byte)) × (r ≤ 1) ⌝ }
+{
+    if byte == 0xCC {
+        return 1;
+    }
+    if byte == 0xCD { 1 } else { 0 }
+}
+
+// 1 for a byte from 0x80 to `last`, else 0.
+fn is_within(byte: u8, last: u8) -> u8
+    ensures { λ r. ⌜ r ≡ one (between 0x80 byte last) ⌝ }
+{
+    if byte < 0x80 {
+        return 0;
+    }
+    if last < byte { 0 } else { 1 }
+}
+
+// 1 for a pair of bytes that is a mark, else 0.
+fn mark_of(byte: u8, next: u8) -> u8
+    ensures { λ r. ⌜ r ≡ one (mark byte next) ⌝ }
+{
+    if byte == 0xCC {
+        return is_within(next, 0xBF);
+    }
+    if byte == 0xCD {
+        return is_within(next, 0xAF);
+    }
+    0
+}
+
+// Where the part from `i` on ends: after 192 bytes, so that a byte can count them, or at the end.
+fn part_end(length: usize, i: usize) -> usize
+    requires { ⌜ i < length ⌝ }
+    ensures { λ r. ⌜ (i < r) × (r ≤ length) × (r ≤ i + 192) ⌝ }
+{
+    if 192 < length - i {
+        return i + 192;
+    }
+    length
+}
+
+// The letters from one place to another, which are right where no mark begins there.
+fn letters_in_part(string: &[u8], from: usize, to: usize) -> Part
+    requires { ⌜ (from ≤ to) × (to ≤ length (now string)) × (to ≤ from + 192) ⌝ }
+    ensures { λ r. ⌜
+        (r .leads ≡ 0 → r .letters + letters (drop to (now (string .entry))) ≡ letters (drop from (now (string .entry)))) ×
+        (r .letters + from ≤ to) ⌝ }
+{
+    let mut letters: u8 = 0;
+    let mut leads: u8 = 0;
+    let mut i = from;
+    while i < to {
+        letters += letter_of(string[i]);
+        leads += lead_of(string[i]);
+        i += 1;
+    }
+    Part { letters, leads }
+}
+
+// The letters from one place to another, the byte after each looked at.
+fn letters_by_pairs(string: &[u8], from: usize, to: usize) -> u8
+    requires { ⌜ (from ≤ to) × (to < length (now string)) × (to ≤ from + 192) ⌝ }
+    ensures { λ r. ⌜
+        (r + letters (drop to (now (string .entry))) ≡ letters (drop from (now (string .entry)))) × (r + from ≤ to) ⌝ }
+{
+    let mut letters: u8 = 0;
+    let mut i = from;
+    while i < to {
+        letters += letter_of(string[i]) - mark_of(string[i], string[i + 1]);
+        i += 1;
+    }
+    letters
+}
+
+// The letters from a place on, of a string where marks may begin: its last byte has none after it.
+fn count_by_pairs(string: &[u8], from: usize) -> u64
+    requires { ⌜ from < length (now string) ⌝ }
+    ensures { λ r. ⌜
+        (r ≡ letters (drop from (now (string .entry)))) × (r + from ≤ length (now (string .entry))) ⌝ }
+{
+    let last = string.len() - 1;
+    let mut count: u64 = 0;
+    let mut i = from;
+    while i < last {
+        let end = part_end(last, i);
+        count += letters_by_pairs(string, i, end) as u64;
+        i = end;
+    }
+    count + letter_of(string[last]) as u64
+}
+
+// The letters of a string, part by part; pair by pair from the first part on in which a mark may begin.
+pub fn count_letters(string: &[u8]) -> u64
+    ensures { λ r. ⌜ (r ≡ letters (now (string .entry))) × (r ≤ length (now (string .entry))) ⌝ }
+{
+    let mut count: u64 = 0;
+    let mut i: usize = 0;
+    while i < string.len() {
+        let end = part_end(string.len(), i);
+        let part = letters_in_part(string, i, end);
+        if 0 < part.leads {
+            return count + count_by_pairs(string, i);
+        }
+        count += part.letters as u64;
+        i = end;
+    }
+    count
+}

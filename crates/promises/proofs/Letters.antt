@@ -1,0 +1,8 @@
+-- One result for each contract of `letters`.
+use Rattle.letters.proofs.count_letters as count-letters
+use Rattle.letters.proofs.count_letters.Reads as count-letters-reads
+use Rattle.promises.proofs.One.{One}
+use mathlib.Core.Path.{_∙_, sym, refl}
+
+pub count-letters-one : One count-letters.ended count-letters-reads.Post (λ κs s. tt {0})
+count-letters-one κs a r₁ r₂ s₁ s₂ p q = (p .0 ∙ sym (q .0), refl)
