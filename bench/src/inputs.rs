@@ -52,14 +52,41 @@ const TEXT: &str = "Donaudampfschiffahrtsgesellschaft";
 
 /// Strings of about 1 KB, with letters of one and two bytes.
 pub fn long_strings(count: usize) -> io::Result<Vec<u8>> {
+    strings_of("Überflüssige Bürokratie häuft Papier; ", count)
+}
+
+/// Strings of about 1 KB of one text over and over, cut anywhere.
+fn strings_of(text: &str, count: usize) -> io::Result<Vec<u8>> {
     let mut draw = Draw(2);
-    let text = "Überflüssige Bürokratie häuft Papier; ".repeat(40);
+    let text = text.repeat(40);
     let mut out = Vec::new();
     for _ in 0..count {
         let length = 900 + draw.below(250) as usize;
         write_bytes(&mut out, &text.as_bytes()[..length])?;
     }
     Ok(out)
+}
+
+/// Article 1 of the Universal Declaration of Human Rights, in three languages: in ASCII, with marks as parts of their
+/// letters, and with marks after them.
+const ENGLISH: &str = "All human beings are born free and equal in dignity and rights. They are endowed with reason \
+    and conscience and should act towards one another in a spirit of brotherhood. ";
+const FRENCH: &str = "Tous les êtres humains naissent libres et égaux en dignité et en droits. Ils sont doués de \
+    raison et de conscience et doivent agir les uns envers les autres dans un esprit de fraternité. ";
+const VIETNAMESE: &str = "Ta\u{302}\u{301}t ca\u{309} mo\u{323}i ngu\u{31b}o\u{31b}\u{300}i sinh ra đe\u{302}\u{300}u \
+    đu\u{31b}o\u{31b}\u{323}c tu\u{31b}\u{323} do va\u{300} bi\u{300}nh đa\u{306}\u{309}ng \
+    ve\u{302}\u{300} nha\u{302}n pha\u{302}\u{309}m va\u{300} quye\u{302}\u{300}n. Mo\u{323}i con \
+    ngu\u{31b}o\u{31b}\u{300}i đe\u{302}\u{300}u đu\u{31b}o\u{31b}\u{323}c ta\u{323}o ho\u{301}a \
+    ban cho ly\u{301} tri\u{301} va\u{300} lu\u{31b}o\u{31b}ng ta\u{302}m va\u{300} \
+    ca\u{302}\u{300}n pha\u{309}i đo\u{302}\u{301}i xu\u{31b}\u{309} vo\u{31b}\u{301}i nhau trong \
+    ti\u{300}nh ba\u{306}\u{300}ng hu\u{31b}\u{303}u. ";
+
+/// Strings of about 1 KB of each text.
+pub fn texts(count: usize) -> io::Result<Vec<(&'static str, Vec<u8>)>> {
+    [("ASCII strings", ENGLISH), ("French strings", FRENCH), ("Vietnamese strings, decomposed", VIETNAMESE)]
+        .into_iter()
+        .map(|(name, text)| Ok((name, strings_of(text, count)?)))
+        .collect()
 }
 
 /// Integers of 16 bytes, of both kinds.

@@ -75,6 +75,7 @@ fn main() -> std::io::Result<()> {
     }
     rows::dictionaries(&mut race, &dictionaries);
     rows::files(&mut race)?;
+    rows::texts(&mut race)?;
     rows::writers(&mut race);
     race.close();
     Ok(())

@@ -128,6 +128,16 @@ pub fn files(race: &mut Race) -> std::io::Result<()> {
     Ok(())
 }
 
+/// The tally of texts by how their marks are stored: what is counted there is letters.
+pub fn texts(race: &mut Race) -> std::io::Result<()> {
+    for (name, source) in inputs::texts(500)? {
+        let atoms = proved::run(&source, BUDGET).expect("the file is whole").atoms as usize;
+        let mut scratch = Vec::new();
+        race.row(name, "tally", atoms, || original::tally(&source, &mut scratch).ok(), || proved::tally(&source).ok());
+    }
+    Ok(())
+}
+
 /// How many values a writer is given.
 const VALUES: usize = 10_000;
 

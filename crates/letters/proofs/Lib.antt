@@ -1,2 +1,3 @@
 pub mod Letters
 pub mod Counting
+pub mod Largest

@@ -1,8 +1,9 @@
 -- The letters of a string. Document 01, "Tally", by document 02, K2.
-use Prim.Native.Nat.{ℕ, _+_}
+use Prim.Native.Nat.{ℕ, _+_, _≤_, _<_}
 use mathlib.Core.Bool.{Bool, true, false}
 use mathlib.Core.List.{List, [], _∷_}
 use lib.Dec.{leb, eqb}
+use lib.ListN.{getD}
 use Rattle.types.specs.Choice.{pick}
 
 -- 1 where a test holds, else 0
@@ -60,3 +61,7 @@ last a = lastFrom 0 a
 -- 1 where a join has a mark's first byte at the end of one and its second at the start of the other, else 0
 abbrev pub split : List ℕ → List ℕ → ℕ
 split a b = one (mark (last a) (first b))
+
+-- each byte from one place to another is at most that
+abbrev pub AtMost : ℕ → List ℕ → ℕ → ℕ → Type 0
+AtMost most s from to = (i : ℕ) → from ≤ i → i < to → getD s i 0 ≤ most

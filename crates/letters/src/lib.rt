@@ -3,7 +3,7 @@
 ghost use mathlib.Core.Path.{_≡_};
 ghost use Prim.Native.Nat.{_≤_, _<_, _+_};
 ghost use lib.ListN.{length, drop};
-ghost use Rattle.letters.specs.Letters.{one, between, letter, mark, lead, letters};
+ghost use Rattle.letters.specs.Letters.{one, between, letter, mark, lead, letters, AtMost};
 
 // The letters of a part, as far as its bytes alone tell them, and how many of its bytes may begin a mark.
 struct Part {
@@ -116,7 +116,7 @@ fn count_by_pairs(string: &[u8], from: usize) -> u64
 }
 
 // The letters of a string, part by part; pair by pair from the first part on in which a mark may begin.
-pub fn count_letters(string: &[u8]) -> u64
+fn count_by_parts(string: &[u8]) -> u64
     ensures { λ r. ⌜ (r ≡ letters (now (string .entry))) × (r ≤ length (now (string .entry))) ⌝ }
 {
     let mut count: u64 = 0;
@@ -131,4 +131,60 @@ pub fn count_letters(string: &[u8]) -> u64
         i = end;
     }
     count
+}
+
+// The larger of two bytes.
+fn larger(a: u8, b: u8) -> u8
+    ensures { λ r. ⌜ (a ≤ r) × (b ≤ r) ⌝ }
+{
+    if a < b { b } else { a }
+}
+
+// The largest of four bytes.
+fn largest_of_4(string: &[u8], at: usize) -> u8
+    requires { ⌜ at + 4 ≤ length (now string) ⌝ }
+    ensures { λ r. ⌜ AtMost r (now (string .entry)) at (at + 4) ⌝ }
+{
+    larger(
+        larger(string[at], string[at + 1]),
+        larger(string[at + 2], string[at + 3]),
+    )
+}
+
+// The largest of eight.
+fn largest_of_8(string: &[u8], at: usize) -> u8
+    requires { ⌜ at + 8 ≤ length (now string) ⌝ }
+    ensures { λ r. ⌜ AtMost r (now (string .entry)) at (at + 8) ⌝ }
+{
+    larger(largest_of_4(string, at), largest_of_4(string, at + 4))
+}
+
+// The largest byte of a short string, by as few steps for each length as for the next: a loop would not foresee its end.
+fn largest_of_few(string: &[u8]) -> u8
+    requires { ⌜ length (now string) ≤ 16 ⌝ }
+    ensures { λ r. ⌜ AtMost r (now (string .entry)) 0 (length (now (string .entry))) ⌝ }
+{
+    let length = string.len();
+    if 7 < length {
+        return larger(largest_of_8(string, 0), largest_of_8(string, length - 8));
+    }
+    if 3 < length {
+        return larger(largest_of_4(string, 0), largest_of_4(string, length - 4));
+    }
+    if 0 < length {
+        return larger(larger(string[0], string[length / 2]), string[length - 1]);
+    }
+    0
+}
+
+// The letters of a string. A short one of ASCII alone, as most of a dictionary's are, has as many as bytes.
+pub fn count_letters(string: &[u8]) -> u64
+    ensures { λ r. ⌜ (r ≡ letters (now (string .entry))) × (r ≤ length (now (string .entry))) ⌝ }
+{
+    if string.len() <= 16 {
+        if largest_of_few(string) < 0x80 {
+            return string.len() as u64;
+        }
+    }
+    count_by_parts(string)
 }

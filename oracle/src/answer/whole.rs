@@ -71,7 +71,17 @@ impl Oracle {
     }
 }
 
-/// A letter is a string byte outside 0x80 to 0xBF.
-fn count_letters(bytes: &[u8]) -> u64 {
-    bytes.iter().filter(|byte| !(0x80..=0xbf).contains(*byte)).count() as u64
+/// A letter is a string byte outside 0x80 to 0xBF; the pair CC with 80 to BF, or CD with 80 to AF, counts as none.
+fn count_letters(mut bytes: &[u8]) -> u64 {
+    let mut letters = 0;
+    loop {
+        bytes = match bytes {
+            [] => return letters,
+            [0xcc, 0x80..=0xbf, rest @ ..] | [0xcd, 0x80..=0xaf, rest @ ..] | [0x80..=0xbf, rest @ ..] => rest,
+            [_, rest @ ..] => {
+                letters += 1;
+                rest
+            }
+        };
+    }
 }

@@ -7,6 +7,12 @@ use super::random::Random;
 pub const INTEGER_COUNTS: [u64; 7] = [1, 2, 3, 4, 6, 8, 16];
 pub const FLOAT_COUNTS: [u64; 3] = [2, 4, 8];
 
+/// How many bytes of a string the library counts the letters of at a time.
+const PART: u64 = 192;
+
+/// The edges of what is a letter, and of the pairs that are none.
+const AROUND_MARKS: [u8; 12] = [0x65, 0x7f, 0x80, 0xaf, 0xb0, 0xbf, 0xc0, 0xcb, 0xcc, 0xcc, 0xcd, 0xce];
+
 /// Appends a header with `extra` bytes more than the fewest, as far as ten bytes allow.
 #[allow(clippy::cast_possible_truncation)]
 pub fn put_header(bytes: &mut Vec<u8>, kind: u8, arg: u64, extra: usize) {
@@ -46,7 +52,7 @@ pub fn put_good(random: &mut Random, bytes: &mut Vec<u8>) -> u64 {
         0 => random.below(7),
         1 | 2 => random.pick(&INTEGER_COUNTS) - 1,
         3 => random.pick(&FLOAT_COUNTS) - 1,
-        7 => random.below(20),
+        7 => string_length(random),
         _ => random.word() >> (20 + random.below(44)),
     };
     put_header(bytes, kind, arg, 0);
@@ -74,8 +80,17 @@ fn likely_arg(random: &mut Random, kind: u8) -> u64 {
         1 | 2 => random.pick(&INTEGER_COUNTS) - 1,
         3 => random.pick(&FLOAT_COUNTS) - 1,
         7 if random.once_in(64) => 2040 + random.below(20),
-        7 => random.below(24),
+        7 => string_length(random),
         _ => edges::word(random),
+    }
+}
+
+/// The length of a string: short, or now and then around a multiple of 192, at which letters are counted in parts.
+fn string_length(random: &mut Random) -> u64 {
+    if random.once_in(24) {
+        PART * (1 + random.below(3)) - 3 + random.below(6)
+    } else {
+        random.below(24)
     }
 }
 
@@ -83,7 +98,7 @@ fn likely_arg(random: &mut Random, kind: u8) -> u64 {
 fn put_body(random: &mut Random, bytes: &mut Vec<u8>, kind: u8, arg: u64) {
     match kind {
         1..=3 => put_number(random, bytes, kind, arg.wrapping_add(1)),
-        7 => put_edged(random, bytes, arg),
+        7 => put_string(random, bytes, arg),
         _ => {}
     }
 }
@@ -95,6 +110,34 @@ pub fn put_number(random: &mut Random, bytes: &mut Vec<u8>, kind: u8, count: u64
         (3, 4) => bytes.extend(edges::single(random).to_le_bytes()),
         (3, 8) => bytes.extend(edges::double(random).to_le_bytes()),
         _ => put_edged(random, bytes, count),
+    }
+}
+
+/// Appends a string's bytes: any, or those around marks, or text in which one mark may begin.
+fn put_string(random: &mut Random, bytes: &mut Vec<u8>, count: u64) {
+    match random.below(3) {
+        1 if count <= 4096 => bytes.extend((0..count).map(|_| *random.pick(&AROUND_MARKS))),
+        2 if count <= 4096 => put_marked(random, bytes, count),
+        _ => put_edged(random, bytes, count),
+    }
+}
+
+/// Appends text with one byte that a mark may begin with, often at the end of a part or of the text.
+#[allow(clippy::cast_possible_truncation)]
+fn put_marked(random: &mut Random, bytes: &mut Vec<u8>, count: u64) {
+    let start = bytes.len();
+    bytes.extend((0..count).map(|_| *random.pick(&[0x65, 0xc3, 0xa9])));
+    let text = &mut bytes[start..];
+    let at = match random.below(3) {
+        0 => PART * (1 + random.below(3)) - 2 + random.below(3),
+        1 => count.wrapping_sub(1 + random.below(2)),
+        _ => random.below(count.max(1)),
+    } as usize;
+    if let Some(first) = text.get_mut(at) {
+        *first = *random.pick(&[0xcc, 0xcd]);
+    }
+    if let Some(second) = text.get_mut(at.saturating_add(1)) {
+        *second = *random.pick(&AROUND_MARKS);
     }
 }
 
