@@ -110,7 +110,8 @@ uint64_t pot_run(const uint8_t *source, size_t source_len, uint64_t budget, uint
 /* Counts all atoms of a source, which has no signature, exactly and without a budget. Words: atoms, body bytes, charge,
  * letters; or where the refused atom starts, and the data; the places of the last atom that was read in words 8 to 10.
  * An input that is too long is refused as a whole: it has no place, and its words are zeros. A letter is a string's
- * byte outside 0x80 to 0xBF. */
+ * byte outside 0x80 to 0xBF; but within a string the pair 0xCC with 0x80 to 0xBF, or 0xCD with 0x80 to 0xAF, which is a
+ * combining mark from U+0300 to U+036F, counts as none. */
 uint64_t pot_tally(const uint8_t *source, size_t source_len, uint64_t *words, size_t words_len);
 
 /* Writers. Each writes to the first bytes of `out`, in the fewest, or nothing. Words: how many bytes, or the data. */

@@ -130,6 +130,17 @@ static void places_of_the_last_atom(void)
     EXPECT(pot_tally(zeros, sizeof zeros, words, POT_WORDS), POT_TOO_LONG, 0);
 }
 
+#define LETTERS(text) pot_tally((const uint8_t *)text, sizeof text - 1, words, POT_WORDS)
+
+/* A letter with its mark after it, a mark alone, CD before B0, and CC at the end of its string, before a sequence. */
+static void letters(void)
+{
+    EXPECT_AT(0, 1, 4, LETTERS("\xE3" "e\xCC\x81"), 0, 1, 3, 3, 1);
+    EXPECT_AT(0, 1, 3, LETTERS("\xE2\xCD\xAF"), 0, 1, 2, 2, 0);
+    EXPECT_AT(0, 1, 3, LETTERS("\xE2\xCD\xB0"), 0, 1, 2, 2, 1);
+    EXPECT_AT(2, 3, 3, LETTERS("\xE1\xCC\x80"), 0, 2, 1, 1, 1);
+}
+
 static void refusals(void)
 {
     uint8_t out[4] = {9, 9, 9, 9};
@@ -218,6 +229,7 @@ int main(void)
     atoms();
     places_of_an_atom();
     places_of_the_last_atom();
+    letters();
     refusals();
     values();
     /* None, as many as there once were, and one less than there are. */

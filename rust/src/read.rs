@@ -290,7 +290,9 @@ pub struct Tally {
     pub body: u64,
     /// What their values take in memory.
     pub charge: u64,
-    /// The letters of their strings.
+    /// The letters of their strings: in UTF-8 the characters, but for combining marks from U+0300 to U+036F. Of any bytes
+    /// a letter is one outside 0x80 to 0xBF, but for the pair 0xCC with 0x80 to 0xBF, or 0xCD with 0x80 to 0xAF, which
+    /// counts as none.
     pub letters: u64,
     /// The places of the last atom, zeros if there was none.
     pub last: Places,
@@ -303,6 +305,9 @@ pub struct Tally {
 /// let tally = dimewagon::tally(&[0xE3, 0x6E, 0xC3, 0xA9, 0x41, 0x2C, 0x01])?;
 /// assert_eq!((tally.atoms, tally.body, tally.charge, tally.letters), (2, 5, 5, 2));
 /// assert_eq!(tally.last.range(), 4..7);
+/// // A mark after its letter counts as no letter: é as one character, and as e with U+0301.
+/// assert_eq!(dimewagon::tally(b"\xE2\xC3\xA9")?.letters, 1);
+/// assert_eq!(dimewagon::tally(b"\xE3e\xCC\x81")?.letters, 1);
 /// let refused = dimewagon::tally(&[0x40, 0x00, 0x24]).unwrap_err();
 /// assert_eq!(refused.to_string(), "refusal 6 at 2: Int of 5 bytes");
 /// assert_eq!(refused.last.range(), 0..2);

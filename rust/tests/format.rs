@@ -150,7 +150,7 @@ fn every_example_of_the_page_is_so() {
         ("cuts", 1),
         ("exact", 32),
         ("exact, budget 3", 5),
-        ("file", 6),
+        ("file", 15),
         ("file places", 1),
         ("filled", 4),
         ("filled places", 4),

@@ -1,6 +1,6 @@
 -- Letters of a string that is taken byte by byte and part by part: what the loops that count them keep, and what they
 -- answer.
-use mathlib.Core.Path.{_≡_, refl, _∙_, sym, ap}
+use mathlib.Core.Path.{_≡_, refl, _∙_, ap}
 use mathlib.Core.Bool.{Bool, true, false}
 use mathlib.Core.List.{List, [], _∷_}
 use Prim.Native.Nat.{ℕ, suc, _+_, _-_, _≤_, _<_}
@@ -8,11 +8,11 @@ use native.Mathlib.Numerals.{add-one}
 use native.Mathlib.Omega.{arith}
 use borrow.Author.Needs.{needs}
 use borrow.Author.Tests.{eq-eqb, ne-eqb}
-use lib.Dec.{eqb}
 use lib.ListN.{length, drop, getD}
 use lib.Seq.{drop-cons, drop-length}
-use Rattle.types.specs.Choice.{pick}
-use Rattle.letters.specs.Letters.{one, between, letter, mark, counts, letters, lead}
+use Rattle.letters.specs.Letters.{between, letter, mark, counts, letters}
+use Rattle.letters.specs.Joins.{lead}
+use Rattle.letters.specs.Parts.{one}
 use Rattle.letters.proofs.Letters.{inside, below, above, mark-begins, alone, with-next, first-drop}
 
 -- a byte by itself
@@ -61,8 +61,8 @@ pub ruleset lead-ends = (lead-cc, lead-cd, no-leads, needs)
 
 pub ruleset mark-ends = (mark-cc, mark-cd, no-mark, needs)
 
--- From one place on, so many letters are counted up to another that is at most the end, and so many bytes are met that a
--- mark may begin with. Where there was none of these, what was counted, with what is left, is the whole.
+-- From one place on, so many letters are counted up to another, at most the end, and so many bytes are met that a mark
+-- may begin with. Where there was none of these, what was counted, with what is left, is the whole.
 pub record Counting (a : List ℕ) (from end count leads i : ℕ) : Type 0 where
   pub inner : i ≤ end
   pub few : count + from ≤ i

@@ -1,5 +1,5 @@
 -- Short strings of ASCII alone: the largest byte of a few is at most 0x7F, so each is a letter.
-use mathlib.Core.Path.{_≡_, refl, sym}
+use mathlib.Core.Path.{_≡_, refl}
 use mathlib.Core.Bool.{Bool, true, false}
 use mathlib.Core.List.{List, [], _∷_}
 use Prim.Native.Nat.{ℕ, zero, suc, _+_, _-_, _/_, _≤_, _<_}
@@ -8,7 +8,8 @@ use borrow.Author.Needs.{needs}
 use borrow.Author.Tests.{ltb-true, ltb-false, ne-eqb}
 use lib.Dec.{ltb}
 use lib.ListN.{length, getD}
-use Rattle.letters.specs.Letters.{letter, counts, letters, lead, AtMost}
+use Rattle.letters.specs.Letters.{letter, letters}
+use Rattle.letters.specs.Parts.{AtMost}
 use Rattle.letters.proofs.Letters.{below, alone}
 
 -- two parts that meet or overlap
@@ -38,7 +39,8 @@ module _ (s : List ℕ) (at a b r : ℕ) where
 
   -- eight, by fours
   pub eight : AtMost a s at (at + 4) → AtMost b s (at + 4) (at + 4 + 4) → a ≤ r → b ≤ r → AtMost r s at (at + 8)
-  eight f g l m i from to = over-both s a b r at (at + 4) (at + 4) (at + 4 + 4) f g (omega arith) l m i from (omega arith)
+  eight f g l m i from to =
+      over-both s a b r at (at + 4) (at + 4) (at + 4 + 4) f g (omega arith) l m i from (omega arith)
 
 -- a short string by its first bytes and its last
 module _ (s : List ℕ) (a b r : ℕ) where
@@ -52,8 +54,8 @@ module _ (s : List ℕ) (a b r : ℕ) where
   by-fours h k f g l m i from to =
       over-both s a b r 0 4 (length s - 4) (length s - 4 + 4) f g (omega arith) l m i from (omega arith)
 
-  pub by-ones : length s ≤ 3 → 0 < length s → getD s 0 0 ≤ a → getD s (length s / 2) 0 ≤ a → getD s (length s - 1) 0 ≤ b →
-      a ≤ r → b ≤ r → AtMost r s 0 (length s)
+  pub by-ones : length s ≤ 3 → 0 < length s → getD s 0 0 ≤ a → getD s (length s / 2) 0 ≤ a →
+      getD s (length s - 1) 0 ≤ b → a ≤ r → b ≤ r → AtMost r s 0 (length s)
   by-ones h k p q u l m i from to = by-place i to
     where
       by-place : (j : ℕ) → j < length s → getD s j 0 ≤ r

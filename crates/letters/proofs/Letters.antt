@@ -1,6 +1,6 @@
 -- Laws of letters: what a mark is, of a byte and the one after it; what a join changes; that letters are at most the
 -- bytes; and that of bytes without 0xCC and 0xCD the count is document 01's old one.
-use mathlib.Core.Path.{_≡_, refl, _∙_, sym, ap}
+use mathlib.Core.Path.{_≡_, refl, sym}
 use mathlib.Core.Bool.{Bool, true, false, false≢true}
 use mathlib.Core.List.{List, [], _∷_, _++_}
 use Prim.Native.Nat.{ℕ, zero, suc, _+_, _≤_, _<_}
@@ -9,21 +9,9 @@ use borrow.Author.Tests.{leb-true, lt-leb, le-leb, eqb-true, ne-eqb}
 use lib.Dec.{leb, eqb}
 use lib.ListN.{length, drop, getD}
 use Rattle.types.specs.Choice.{pick}
-use Rattle.letters.specs.Letters.{
-  one,
-  between,
-  letter,
-  mark,
-  counts,
-  letters,
-  lead,
-  leadless,
-  lettersBefore,
-  first,
-  last,
-  lastFrom,
-  split,
-}
+use Rattle.letters.specs.Letters.{between, letter, mark, counts, letters}
+use Rattle.letters.specs.Joins.{lead, leadless, lettersBefore, first, splits}
+use Rattle.letters.specs.Parts.{one}
 
 -- a byte that is in a range, and one that is not
 module _ (low b high : ℕ) where
@@ -148,14 +136,14 @@ first-drop (b ∷ a) zero = refl
 first-drop (b ∷ a) (suc i) = first-drop a i
 
 -- OF A JOIN: the letters of the two are those of the whole, and one more where the join splits a mark
-pub joined : (a b : List ℕ) → letters a + letters b ≡ letters (a ++ b) + split a b
+pub joined : (a b : List ℕ) → letters a + letters b ≡ letters (a ++ b) + one (splits a b)
 unfolding letters
 joined [] b = omega arith
 joined (x ∷ []) b = let j = with-next x b in omega arith
 joined (x ∷ c ∷ a) b = let r = joined (c ∷ a) b in omega arith
 
-pub joined-whole : (a b : List ℕ) → mark (last a) (first b) ≡ false → letters (a ++ b) ≡ letters a + letters b
+pub joined-whole : (a b : List ℕ) → splits a b ≡ false → letters (a ++ b) ≡ letters a + letters b
 joined-whole a b h = let j : letters a + letters b ≡ letters (a ++ b) + 0 = rw h at (joined a b) in omega arith
 
-pub joined-split : (a b : List ℕ) → mark (last a) (first b) ≡ true → letters (a ++ b) + 1 ≡ letters a + letters b
+pub joined-split : (a b : List ℕ) → splits a b ≡ true → letters (a ++ b) + 1 ≡ letters a + letters b
 joined-split a b h = let j : letters a + letters b ≡ letters (a ++ b) + 1 = rw h at (joined a b) in omega arith

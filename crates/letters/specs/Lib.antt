@@ -1,1 +1,3 @@
 pub mod Letters
+pub mod Joins
+pub mod Parts

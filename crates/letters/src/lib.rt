@@ -1,9 +1,11 @@
-// The letters of a string. Document 01, "Tally", by document 02, K2: a byte outside 0x80 to 0xBF is a letter, but for the
-// first byte of a pair that is a combining mark.
+// The letters of a string. Document 01, "Tally", by document 02, K2: a byte outside 0x80 to 0xBF is a letter, but for
+// the first byte of a pair that is a combining mark.
 ghost use mathlib.Core.Path.{_≡_};
 ghost use Prim.Native.Nat.{_≤_, _<_, _+_};
 ghost use lib.ListN.{length, drop};
-ghost use Rattle.letters.specs.Letters.{one, between, letter, mark, lead, letters, AtMost};
+ghost use Rattle.letters.specs.Letters.{between, letter, mark, letters};
+ghost use Rattle.letters.specs.Joins.{lead};
+ghost use Rattle.letters.specs.Parts.{one, AtMost};
 
 // The letters of a part, as far as its bytes alone tell them, and how many of its bytes may begin a mark.
 struct Part {
@@ -11,7 +13,8 @@ struct Part {
     leads: u8,
 }
 
-// 1 for a byte outside 0x80 to 0xBF, else 0: a choice without a branch, so that a loop over it takes many bytes at a time.
+// 1 for a byte outside 0x80 to 0xBF, else 0: a choice without a branch, so that a loop over it takes many bytes at a
+// time.
 fn letter_of(byte: u8) -> u8
     ensures { λ r. ⌜ (r ≡ letter byte) × (r ≤ 1) ⌝ }
 {
@@ -69,7 +72,8 @@ fn part_end(length: usize, i: usize) -> usize
 fn letters_in_part(string: &[u8], from: usize, to: usize) -> Part
     requires { ⌜ (from ≤ to) × (to ≤ length (now string)) × (to ≤ from + 192) ⌝ }
     ensures { λ r. ⌜
-        (r .leads ≡ 0 → r .letters + letters (drop to (now (string .entry))) ≡ letters (drop from (now (string .entry)))) ×
+        (r .leads ≡ 0 →
+        r .letters + letters (drop to (now (string .entry))) ≡ letters (drop from (now (string .entry)))) ×
         (r .letters + from ≤ to) ⌝ }
 {
     let mut letters: u8 = 0;
@@ -159,7 +163,7 @@ fn largest_of_8(string: &[u8], at: usize) -> u8
     larger(largest_of_4(string, at), largest_of_4(string, at + 4))
 }
 
-// The largest byte of a short string, by as few steps for each length as for the next: a loop would not foresee its end.
+// The largest byte of a short string, by the same steps for many lengths: a loop's end would not be foreseen.
 fn largest_of_few(string: &[u8]) -> u8
     requires { ⌜ length (now string) ≤ 16 ⌝ }
     ensures { λ r. ⌜ AtMost r (now (string .entry)) 0 (length (now (string .entry))) ⌝ }

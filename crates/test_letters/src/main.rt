@@ -1,9 +1,10 @@
-// Runs the count of letters on its edges, by itself and as a tally's part. What the program is held to was worked out by
-// hand from document 02's K2: "the pair CC with 80 to BF, or CD with 80 to AF (U+0300 to U+036F), counts as no letter.
+// Runs the count of letters on its edges, by itself and in a tally. What the program is held to was worked out by hand
+// from document 02's K2: "the pair CC with 80 to BF, or CD with 80 to AF (U+0300 to U+036F), counts as no letter.
 // Every other byte outside 80 to BF counts one, as before, also CC or CD before any other byte or at the string's end."
 ghost use mathlib.Core.Path.{_≡_};
 ghost use Prim.Native.Nat.{_<_};
 ghost use lib.ListN.{length};
+use libc::STDIN_FILENO;
 use libc::STDOUT_FILENO;
 use types::TallyAnswer;
 
@@ -47,11 +48,29 @@ fn run_edges() {
     run(b"CC 80 CC 80 CC", b"\xCC\x80\xCC\x80\xCC");
 }
 
-// A text of 600 letters.
-fn text() -> [u8; 600]
+// 600 letters, but for a pair at a place.
+fn with_pair(at: usize, first: u8, second: u8) -> [u8; 600]
+    requires { ⌜ at < 599 ⌝ }
     ensures { λ r. ⌜ 600 ≡ length r ⌝ }
 {
-    [0x65; 600]
+    let mut bytes = [0x65; 600];
+    bytes[at] = first;
+    bytes[at + 1] = second;
+    bytes
+}
+
+// Writes a place, and how many letters a string has.
+fn put_at(at: usize, name: &[u8], string: &[u8]) {
+    io::print_decimal(STDOUT_FILENO, at as u64);
+    run(name, string);
+}
+
+// The same of what ends with the byte at that place.
+fn put_cut(at: usize, string: &[u8])
+    requires { ⌜ at < length (now string) ⌝ }
+{
+    let count = at + 1;
+    put_at(at, b", ends with CC", &string[0..count]);
 }
 
 // Of 600 bytes, the letters with a pair at a place that is no mark, with one that is, and of what ends with its first
@@ -59,16 +78,10 @@ fn text() -> [u8; 600]
 fn run_at(at: usize)
     requires { ⌜ at < 599 ⌝ }
 {
-    let mut bytes = text();
-    bytes[at] = 0xCD;
-    bytes[at + 1] = 0xB0;
-    io::print_decimal(STDOUT_FILENO, at as u64);
-    put(b", CD B0", letters::count_letters(&bytes));
-    bytes[at] = 0xCC;
-    io::print_decimal(STDOUT_FILENO, at as u64);
-    put(b", CC B0", letters::count_letters(&bytes));
-    io::print_decimal(STDOUT_FILENO, at as u64);
-    put(b", ends with CC", letters::count_letters(&bytes[..at + 1]));
+    put_at(at, b", CD B0", &with_pair(at, 0xCD, 0xB0));
+    let bytes = with_pair(at, 0xCC, 0xB0);
+    put_at(at, b", CC B0", &bytes);
+    put_cut(at, &bytes);
 }
 
 // At each place around another.
@@ -115,25 +128,28 @@ fn run_tallies() {
     );
 }
 
-// Text with its marks as parts of their letters, and after them: of as many letters where all marks are from U+0300 to
-// U+036F, as those of Vietnamese are, and those of Japanese (U+3099) are not.
+// Writes how many bytes and letters each line of a text has.
+fn run_lines(text: &[u8]) {
+    let mut start: usize = 0;
+    let mut i: usize = 0;
+    while i < text.len() {
+        if text[i] == 0x0A {
+            io::print_decimal(STDOUT_FILENO, (i - start) as u64);
+            run(b" bytes", &text[start..i]);
+            i += 1;
+            start = i;
+            continue;
+        }
+        i += 1;
+    }
+}
+
+// Standard input has texts with their marks as parts of the letters, and the same after them: of as many letters where
+// all marks are from U+0300 to U+036F, as those of Vietnamese and French are, and those of Japanese (U+3099) are not.
 fn run_texts() {
-    run(
-        b"Vietnamese, composed",
-        b"T\xE1\xBA\xA5t c\xE1\xBA\xA3 m\xE1\xBB\x8Di ng\xC6\xB0\xE1\xBB\x9Di sinh ra \xC4\x91\xE1\xBB\x81u \xC4\x91\xC6\xB0\xE1\xBB\xA3c t\xE1\xBB\xB1 do v\xC3\xA0 b\xC3\xACnh \xC4\x91\xE1\xBA\xB3ng v\xE1\xBB\x81 nh\xC3\xA2n ph\xE1\xBA\xA9m v\xC3\xA0 quy\xE1\xBB\x81n. M\xE1\xBB\x8Di con ng\xC6\xB0\xE1\xBB\x9Di \xC4\x91\xE1\xBB\x81u \xC4\x91\xC6\xB0\xE1\xBB\xA3c t\xE1\xBA\xA1o h\xC3\xB3a ban cho l\xC3\xBD tr\xC3\xAD v\xC3\xA0 l\xC6\xB0\xC6\xA1ng t\xC3\xA2m v\xC3\xA0 c\xE1\xBA\xA7n ph\xE1\xBA\xA3i \xC4\x91\xE1\xBB\x91i x\xE1\xBB\xAD v\xE1\xBB\x9Bi nhau trong t\xC3\xACnh b\xE1\xBA\xB1ng h\xE1\xBB\xAFu.",
-    );
-    run(
-        b"Vietnamese, decomposed",
-        b"Ta\xCC\x82\xCC\x81t ca\xCC\x89 mo\xCC\xA3i ngu\xCC\x9Bo\xCC\x9B\xCC\x80i sinh ra \xC4\x91e\xCC\x82\xCC\x80u \xC4\x91u\xCC\x9Bo\xCC\x9B\xCC\xA3c tu\xCC\x9B\xCC\xA3 do va\xCC\x80 bi\xCC\x80nh \xC4\x91a\xCC\x86\xCC\x89ng ve\xCC\x82\xCC\x80 nha\xCC\x82n pha\xCC\x82\xCC\x89m va\xCC\x80 quye\xCC\x82\xCC\x80n. Mo\xCC\xA3i con ngu\xCC\x9Bo\xCC\x9B\xCC\x80i \xC4\x91e\xCC\x82\xCC\x80u \xC4\x91u\xCC\x9Bo\xCC\x9B\xCC\xA3c ta\xCC\xA3o ho\xCC\x81a ban cho ly\xCC\x81 tri\xCC\x81 va\xCC\x80 lu\xCC\x9Bo\xCC\x9Bng ta\xCC\x82m va\xCC\x80 ca\xCC\x82\xCC\x80n pha\xCC\x89i \xC4\x91o\xCC\x82\xCC\x81i xu\xCC\x9B\xCC\x89 vo\xCC\x9B\xCC\x81i nhau trong ti\xCC\x80nh ba\xCC\x86\xCC\x80ng hu\xCC\x9B\xCC\x83u.",
-    );
-    run(
-        b"Japanese, composed",
-        b"\xE3\x81\x8C\xE3\x81\x8E\xE3\x81\x90\xE3\x81\x92\xE3\x81\x94",
-    );
-    run(
-        b"Japanese, decomposed",
-        b"\xE3\x81\x8B\xE3\x82\x99\xE3\x81\x8D\xE3\x82\x99\xE3\x81\x8F\xE3\x82\x99\xE3\x81\x91\xE3\x82\x99\xE3\x81\x93\xE3\x82\x99",
-    );
+    let mut text = io::buffer();
+    let count = io::read_full(STDIN_FILENO, &mut text);
+    run_lines(&text[..count]);
 }
 
 fn main() {
