@@ -1,4 +1,4 @@
-/* Exports that break what a lender is promised, or say wrong places; each is tried alone by self-check. */
+/* Exports that break what a lender is promised, or say wrong places or letters; each is tried alone by self-check. */
 #include "dimewagon.h"
 
 #ifdef WRONG_write_none
@@ -51,6 +51,17 @@ uint64_t right_run(const uint8_t *source, size_t source_len, uint64_t budget, ui
 uint64_t pot_run(const uint8_t *source, size_t source_len, uint64_t budget, uint64_t *words, size_t words_len) {
     uint64_t number = right_run(source, source_len, budget, words, words_len);
     if (number != 0 && words_len >= POT_WORDS) words[POT_FIRST] = words[POT_BODY] = words[POT_AFTER] = 0;
+    return number;
+}
+#endif
+
+#ifdef WRONG_tally
+uint64_t right_tally(const uint8_t *source, size_t source_len, uint64_t *words, size_t words_len);
+
+/* Counts CC as no letter at the end of the last string. */
+uint64_t pot_tally(const uint8_t *source, size_t source_len, uint64_t *words, size_t words_len) {
+    uint64_t number = right_tally(source, source_len, words, words_len);
+    if (number == 0 && words_len >= POT_WORDS && words[3] > 0 && source[source_len - 1] == 0xCC) words[3]--;
     return number;
 }
 #endif

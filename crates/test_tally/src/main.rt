@@ -1,5 +1,6 @@
-// Runs what the tally program writes on its cases: document 01's example, each refusal that it gives, the edges of its
-// length, and numbers of several digits. The texts that it is held to were worked out from document 01 by hand.
+// Runs what the tally program writes on its cases: document 01's example, K2's marks, each refusal that it gives, the
+// edges of its length, and numbers of several digits. The texts that it is held to were worked out by hand from document
+// 01 and document 02's K2.
 ghost use mathlib.Core.Path.{_≡_};
 ghost use Prim.Native.Nat.{_≤_};
 ghost use lib.ListN.{length};
@@ -41,7 +42,12 @@ fn run_taken() {
         b"signature with other bits, highest version",
         b"\xFF\xFF\xFF\xFF",
     );
-    run(b"letters and marks", b"Pot\x02\xE6\x7F\x80\xBF\xC0\xFF\x00");
+    run(
+        b"letters and bytes that are none",
+        b"Pot\x02\xE6\x7F\x80\xBF\xC0\xFF\x00",
+    );
+    run(b"a letter with its mark", b"Pot\x01\xE3e\xCC\x81");
+    run(b"CC at a string's end", b"Pot\x01\xE1\xCC\x80");
 }
 
 // Files that are refused: the signature, and then an atom.
