@@ -263,6 +263,21 @@ fn letters_of(source: &[u8], from: Place, to: Place, string: bool) -> u64
     0
 }
 
+// The same of an atom that is passed by its first byte: such a string is short, and mostly a word.
+fn letters_of_short(source: &[u8], from: Place, to: Place, string: bool) -> u64
+    requires { ⌜ (from .0 ≤ to .0) × (to .0 ≤ length (now source)) ⌝ }
+    ensures { λ r. ⌜
+        (r ≡ pick string (letters (take (to .0 - from .0) (drop (from .0) (now (source .entry))))) 0) ×
+        (r + from .0 ≤ to .0) ⌝ }
+{
+    if string {
+        let start = from.0;
+        let after = to.0;
+        return letters::count_word(&source[start..after]);
+    }
+    0
+}
+
 // The answer of a tally that met the file's end.
 fn counted(last: Places, atoms: u64, body: BodyBytes, charge: u64, letters: u64) -> TallyAnswer
     ensures { λ r. ⌜ r ≡ TA.Done last (tallied atoms (body .0) charge letters) ⌝ }
@@ -310,7 +325,7 @@ fn tally_within(source: &[u8]) -> TallyAnswer
     while at.0 < source.len() {
         match short_atom(source, at, Budget(0xFFFF_FFFF_FFFF_FFFF)) {
             Short::Past(end, rest, from, string) => {
-                letters += letters_of(source, from, end, string);
+                letters += letters_of_short(source, from, end, string);
                 charge += 0xFFFF_FFFF_FFFF_FFFF - rest.0;
                 headers += 0x4000_0001;
                 first = at;

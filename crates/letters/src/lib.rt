@@ -120,7 +120,7 @@ fn count_by_pairs(string: &[u8], from: usize) -> u64
 }
 
 // The letters of a string, part by part; pair by pair from the first part on in which a mark may begin.
-fn count_by_parts(string: &[u8]) -> u64
+pub fn count_letters(string: &[u8]) -> u64
     ensures { λ r. ⌜ (r ≡ letters (now (string .entry))) × (r ≤ length (now (string .entry))) ⌝ }
 {
     let mut count: u64 = 0;
@@ -181,8 +181,8 @@ fn largest_of_few(string: &[u8]) -> u8
     0
 }
 
-// The letters of a string. A short one of ASCII alone, as most of a dictionary's are, has as many as bytes.
-pub fn count_letters(string: &[u8]) -> u64
+// The letters of a string that is likely a word: a short one of ASCII alone has as many as bytes.
+pub fn count_word(string: &[u8]) -> u64
     ensures { λ r. ⌜ (r ≡ letters (now (string .entry))) × (r ≤ length (now (string .entry))) ⌝ }
 {
     if string.len() <= 16 {
@@ -190,5 +190,5 @@ pub fn count_letters(string: &[u8]) -> u64
             return string.len() as u64;
         }
     }
-    count_by_parts(string)
+    count_letters(string)
 }

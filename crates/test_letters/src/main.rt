@@ -16,9 +16,12 @@ fn put(name: &[u8], number: u64) {
     io::write_all(STDOUT_FILENO, b"\n");
 }
 
-// Writes how many letters a string has.
+// Writes how many letters a string has, by each of the two functions that count them.
 fn run(name: &[u8], string: &[u8]) {
     put(name, letters::count_letters(string));
+    if letters::count_word(string) != letters::count_letters(string) {
+        put(b"but as a word", letters::count_word(string));
+    }
 }
 
 // Each edge of a pair, at the end of its string and before other bytes.

@@ -17,8 +17,8 @@ abbrev μ-loop : tie.MeasureT-loop
     length source - at .0
 
 -- two facts, each searched for by itself: for both at once the search would break off
-letters-of-requires-2 : tie.Need-letters-of-requires-2 Inv-loop μ-loop
-letters-of-requires-2 c κs = (search step-starts, search step-inside)
+letters-of-requires : tie.Need-letters-of-requires Inv-loop μ-loop
+letters-of-requires c κs = (search step-starts, search step-inside)
 
 -- what holds before the turn lies further back than a search looks: it is found by its type
 loop-again-2 : tie.Need-loop-again-2 Inv-loop μ-loop
@@ -37,7 +37,7 @@ tally-within-spec =
     Inv-loop μ-loop (λ c. search tally-laws) (λ c κs. search tally-laws) (λ c. search tally-laws)
     (λ c κs. search tally-laws) (λ c. search tally-laws) (λ c. search tally-laws) (λ c. search tally-laws)
     (λ c. search tally-laws) (λ c. search tally-laws) (λ c. search tally-laws) (λ c. search tally-laws)
-    (λ c κs. search tally-laws) (λ c. search tally-laws) letters-of-requires-2 (λ c. search tally-laws)
+    (λ c κs. search tally-laws) (λ c. search tally-laws) letters-of-requires (λ c. search tally-laws)
     (λ c. search tally-laws) (λ c. search tally-laws) (λ c. search tally-laws) (λ c. search tally-laws)
     (λ c. search tally-laws) (λ c. search tally-laws) loop-again-2 (λ c. search tally-laws) (λ c κs. search tally-laws)
     returns (λ c. search tally-laws) (λ c κs. search tally-laws) (λ c κs. search tally-laws) returns-2)
