@@ -24,16 +24,24 @@ fn run(name: &[u8], string: &[u8]) {
     }
 }
 
-// Each edge of a pair, at the end of its string and before other bytes.
-fn run_edges() {
+// Strings without a byte that a mark may begin with.
+fn run_plain() {
     run(b"nothing", b"");
     run(b"65", b"\x65");
     run(b"7F 80 BF C0 FF", b"\x7F\x80\xBF\xC0\xFF");
+}
+
+// CC, before each edge of what makes it a mark.
+fn run_cc() {
     run(b"65 CC 81", b"\x65\xCC\x81");
     run(b"CC 7F", b"\xCC\x7F");
     run(b"CC 80", b"\xCC\x80");
     run(b"CC BF", b"\xCC\xBF");
     run(b"CC C0", b"\xCC\xC0");
+}
+
+// CD, and its neighbours.
+fn run_cd() {
     run(b"CD 7F", b"\xCD\x7F");
     run(b"CD 80", b"\xCD\x80");
     run(b"CD AF", b"\xCD\xAF");
@@ -41,6 +49,10 @@ fn run_edges() {
     run(b"CD BF", b"\xCD\xBF");
     run(b"CB 80", b"\xCB\x80");
     run(b"CE 80", b"\xCE\x80");
+}
+
+// At the end of the string, and one after the other.
+fn run_ends() {
     run(b"CC", b"\xCC");
     run(b"CD", b"\xCD");
     run(b"65 CC", b"\x65\xCC");
@@ -156,7 +168,10 @@ fn run_texts() {
 }
 
 fn main() {
-    run_edges();
+    run_plain();
+    run_cc();
+    run_cd();
+    run_ends();
     run_around(192);
     run_around(384);
     run_around(576);
