@@ -137,7 +137,7 @@ pub fn count_letters(string: &[u8]) -> u64
     count
 }
 
-// The larger of two bytes.
+// The larger of two bytes. Of this and the three below their callers ask just that no byte is larger.
 fn larger(a: u8, b: u8) -> u8
     ensures { λ r. ⌜ (a ≤ r) × (b ≤ r) ⌝ }
 {
