@@ -197,7 +197,7 @@ pub fn tally_filled(source: &[u8], scratch: &mut Vec<u8>) -> Result<Tally, Error
 }
 
 /// A letter is a string byte outside 0x80 to 0xBF; the pair CC with 80 to BF, or CD with 80 to AF, counts as none. Of
-/// eleven plain loops this was the fastest on strings of 1 KB of each text: it takes back a letter that began a mark.
+/// ten plain loops this was the fastest on strings of 1 KB of each text: it takes back a letter that began a mark.
 fn count_letters(bytes: &[u8]) -> u64 {
     let (mut letters, mut before) = (0, 0);
     for &byte in bytes {

@@ -1,6 +1,7 @@
-// Runs the count of letters on its edges, by itself and in a tally. What the program is held to was worked out by hand
-// from document 02's K2: "the pair CC with 80 to BF, or CD with 80 to AF (U+0300 to U+036F), counts as no letter.
-// Every other byte outside 80 to BF counts one, as before, also CC or CD before any other byte or at the string's end."
+// Runs the count of letters on its edges, by itself and in a tally. What the program is held to was worked out apart
+// from it: the edges by hand from document 02's K2, "the pair CC with 80 to BF, or CD with 80 to AF (U+0300 to U+036F),
+// counts as no letter. Every other byte outside 80 to BF counts one, as before, also CC or CD before any other byte or at
+// the string's end.", and the texts by counting their characters outside U+0300 to U+036F.
 ghost use mathlib.Core.Path.{_≡_};
 ghost use Prim.Native.Nat.{_<_};
 ghost use lib.ListN.{length};
