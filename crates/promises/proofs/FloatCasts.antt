@@ -169,6 +169,7 @@ some-number (R.UnexpectedKind kind wanted) e = omega arith
 some-number R.ImpreciseCastWouldLoseData e = omega arith
 some-number R.NoRoom e = omega arith
 some-number R.TooLong e = omega arith
+some-number R.NotShortest e = omega arith
 
 same-number : {a b : Told} → a ≡ b → a .number ≡ b .number
 same-number e = ap (λ (t : Told). t .number) e

@@ -87,6 +87,7 @@ number-most (R.UnexpectedKind kind wanted) = omega arith
 number-most R.ImpreciseCastWouldLoseData = omega arith
 number-most R.NoRoom = omega arith
 number-most R.TooLong = omega arith
+number-most R.NotShortest = omega arith
 
 refused-most : (r : Refusal) (at : ℕ) → at < 100_000 → length (refusedText r at) ≤ 79
 unfolding refusedText

@@ -1,4 +1,4 @@
--- This paper's number and data of each refusal. Document 01, "Refusals by number".
+-- This paper's number and data of each refusal. Document 01, "Refusals by number"; document 02, K3: "11 NotShortest".
 use Prim.Native.Nat.{ℕ}
 use mathlib.Core.List.{List, [], _∷_}
 use Rattle.types.specs.Kinds.{kindCode}
@@ -17,6 +17,7 @@ refusalNumber (R.UnexpectedKind kind wanted) = 7
 refusalNumber R.ImpreciseCastWouldLoseData = 8
 refusalNumber R.NoRoom = 9
 refusalNumber R.TooLong = 10
+refusalNumber R.NotShortest = 11
 
 -- the data in parentheses beside the number, kinds by their codes
 abbrev pub refusalData : Refusal → List ℕ
@@ -30,6 +31,7 @@ refusalData (R.UnexpectedKind kind wanted) = kindCode kind ∷ kindCode wanted �
 refusalData R.ImpreciseCastWouldLoseData = []
 refusalData R.NoRoom = []
 refusalData R.TooLong = []
+refusalData R.NotShortest = []
 
 -- refusal 9 of a write, or a string, that takes that many bytes; "a refusal returns its number and data only"
 abbrev pub noRoom : ℕ → Refusal

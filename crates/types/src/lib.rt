@@ -134,6 +134,7 @@ pub enum Refusal {
     ImpreciseCastWouldLoseData,
     NoRoom,
     TooLong,
+    NotShortest,
 }
 
 pub enum KindAnswer {
@@ -224,6 +225,12 @@ pub enum TallyAnswer {
     Done(Places, Tallied),
     Stopped(Places, Refusal, Place),
     Refused(Places, Refusal),
+}
+
+// What the check for shortest form answers: of a refused atom its refusal, and the place where it starts.
+pub enum Checked {
+    Accepted,
+    Refused(Refusal, Place),
 }
 
 pub enum AsI8 {
@@ -409,6 +416,7 @@ impl Refusal {
             Refusal::ImpreciseCastWouldLoseData => 8,
             Refusal::NoRoom => 9,
             Refusal::TooLong => 10,
+            Refusal::NotShortest => 11,
         }
     }
 

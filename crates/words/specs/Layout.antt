@@ -28,6 +28,8 @@ use Rattle.types.specs.declared.Ran.{Ran}
 use Rattle.types.specs.declared.Ran.the-variants as RN
 use Rattle.types.specs.declared.TallyAnswer.{TallyAnswer}
 use Rattle.types.specs.declared.TallyAnswer.the-variants as TA
+use Rattle.types.specs.declared.Checked.{Checked}
+use Rattle.types.specs.declared.Checked.the-variants as C
 use Rattle.types.specs.declared.VersionAnswer.{VersionAnswer}
 use Rattle.types.specs.declared.VersionAnswer.the-variants as VA
 use Rattle.types.specs.declared.Written.{Written}
@@ -165,6 +167,11 @@ unfoldable pub saidTally : TallyAnswer → Said
 saidTally (TA.Done last t) = saysAt 0 (t .atoms) (t .body .0) (t .charge) (t .letters) 0 0 0 0 last
 saidTally (TA.Stopped last r start) = saysAt (refusalNumber r) (start .0) (datum 0 r) (datum 1 r) 0 0 0 0 0 last
 saidTally (TA.Refused last r) = saysAt (refusalNumber r) 0 (datum 0 r) (datum 1 r) 0 0 0 0 0 last
+
+-- a check for shortest form: nothing, or where the refused atom starts, and the refusal's data
+unfoldable pub saidChecked : Checked → Said
+saidChecked C.Accepted = says 0 0 0 0 0 0 0 0 0
+saidChecked (C.Refused r start) = says (refusalNumber r) (start .0) (datum 0 r) (datum 1 r) 0 0 0 0 0
 
 -- a signature: place and version, or place
 unfoldable pub saidVersion : VersionAnswer → Said

@@ -3,7 +3,7 @@
 ghost use mathlib.Core.Path.{_≡_};
 ghost use Rattle.types.specs.Choice.{pick};
 ghost use Rattle.words.specs.Layout.{says, saysAt, laid, datum, numberOf, wordsOf, integerWords, valueBits, nucleusWords, floatWords};
-ghost use Rattle.words.specs.Layout.{saidAtom, saidSkipped, saidRan, saidTally, saidVersion, saidWritten, saidRefused, saidWord, saidInteger, saidAsInteger, saidCast, saidAsF32, saidAsF64, saidNarrowed};
+ghost use Rattle.words.specs.Layout.{saidAtom, saidSkipped, saidRan, saidTally, saidChecked, saidVersion, saidWritten, saidRefused, saidWord, saidInteger, saidAsInteger, saidCast, saidAsF32, saidAsF64, saidNarrowed};
 ghost use Rattle.binary.specs.Formats.{single, double};
 ghost use Rattle.binary.specs.Conversions.{narrowed};
 use binary::Narrowed32;
@@ -11,6 +11,7 @@ use types::AsF32;
 use types::AsF64;
 use types::AsInteger;
 use types::AtomAnswer;
+use types::Checked;
 use types::Float;
 use types::Integer;
 use types::Nucleus;
@@ -132,6 +133,7 @@ fn first_datum(refusal: Refusal) -> u64
         Refusal::ImpreciseCastWouldLoseData => 0,
         Refusal::NoRoom => 0,
         Refusal::TooLong => 0,
+        Refusal::NotShortest => 0,
     }
 }
 
@@ -150,6 +152,7 @@ fn second_datum(refusal: Refusal) -> u64
         Refusal::ImpreciseCastWouldLoseData => 0,
         Refusal::NoRoom => 0,
         Refusal::TooLong => 0,
+        Refusal::NotShortest => 0,
     }
 }
 
@@ -373,6 +376,22 @@ pub fn say_tally(words: &mut [u64], answer: TallyAnswer) -> u64
             let second = second_datum(refusal);
             let number = refusal.number();
             return say_at(words, number, 0, first, second, 0, 0, 0, last);
+        }
+    }
+}
+
+// A check for shortest form.
+pub fn say_checked(words: &mut [u64], answer: Checked) -> u64
+    ensures { λ r. ⌜ r ≡ numberOf (saidChecked answer) (now (words .entry)) ⌝ }
+    ensures { λ r. ⌜ now (words .exit) ≡ wordsOf (saidChecked answer) (now (words .entry)) ⌝ }
+{
+    match answer {
+        Checked::Accepted => return say(words, 0, 0, 0, 0, 0, 0, 0, 0, 0),
+        Checked::Refused(refusal, start) => {
+            let at = start.0 as u64;
+            let first = first_datum(refusal);
+            let second = second_datum(refusal);
+            return say(words, refusal.number(), at, first, second, 0, 0, 0, 0, 0);
         }
     }
 }

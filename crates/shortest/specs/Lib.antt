@@ -1,0 +1,4 @@
+pub mod Meanings
+pub mod Forms
+pub mod Checks
+pub mod Steps
