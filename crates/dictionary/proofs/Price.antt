@@ -390,7 +390,7 @@ module _ (l atom rest : List ℕ) (e : atom ++ rest ≡ l) (n : length atom ≡ 
       let h : headerLength (atom ++ rest) ≡ headerLength l = ap headerLength e in
       omega arith
 
-  first-whole : known (headerKind l) (headerArgument l) ≡ true → IsAtom atom
+  pub first-whole : known (headerKind l) (headerArgument l) ≡ true → IsAtom atom
   first-whole k =
       let f = front atom rest first-header in
       let a : headerKind l ≡ headerKind atom = sym (ap headerKind e) ∙ f .same-kind in

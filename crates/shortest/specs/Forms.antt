@@ -27,9 +27,9 @@ use Rattle.shortest.specs.Meanings.{kindOf, meant}
 -- "byte for byte"
 unfoldable pub sameBytes : List ℕ → List ℕ → Bool
 sameBytes [] [] = true
-sameBytes [] (b ∷ bs) = false
-sameBytes (a ∷ as) [] = false
-sameBytes (a ∷ as) (b ∷ bs) = pick (eqb a b) (sameBytes as bs) false
+sameBytes [] (c ∷ those) = false
+sameBytes (b ∷ these) [] = false
+sameBytes (b ∷ these) (c ∷ those) = pick (eqb b c) (sameBytes these those) false
 
 -- "its header is byte for byte what our header writer gives for that kind and argument": of the atom that these bytes
 -- start with

@@ -2,7 +2,7 @@
 // means. Document 02, K3.
 ghost use mathlib.Core.Path.{_≡_};
 ghost use mathlib.Core.Bool.{true, not, _&&_};
-ghost use Prim.Native.Nat.{_+_, _≤_, _^_, _<_};
+ghost use Prim.Native.Nat.{_+_, _*_, _^_, _≤_};
 ghost use lib.Dec.{eqb, leb};
 ghost use lib.ListN.{length};
 ghost use Rattle.types.specs.Forms.{allowedCount, allowedFloat};
@@ -29,12 +29,15 @@ fn shortest_header(source: &[u8], places: Places) -> bool
     requires { ⌜ Stands (now source) places × (places .first .0 + 2 ≤ places .body .0) ⌝ }
     ensures { λ r. ⌜ r ≡ shortestHeader (atomAt (now (source .entry)) places) ⌝ }
 {
-    let body = places.body.0;
-    let last = source[body - 1];
-    if body - places.first.0 == 10 {
-        return 0 < last && last < 16;
+    let end = places.body.0 - 1;
+    let last = source[end];
+    if last == 0 {
+        return false;
     }
-    return 0 < last;
+    if end - places.first.0 == 9 {
+        return last < 16;
+    }
+    return true;
 }
 
 // Whether an unsigned number takes the fewest bytes: the next smaller count does not hold it.
@@ -58,7 +61,10 @@ fn shortest_uint(source: &[u8], at: usize, count: u64) -> bool
 fn is_between(number: u64, low: u64, high: u64) -> bool
     ensures { λ r. ⌜ r ≡ (leb low number && leb number high) ⌝ }
 {
-    low <= number && number <= high
+    if low <= number {
+        return number <= high;
+    }
+    return false;
 }
 
 // Whether a signed number of 16 bytes is too large for 8: its high half says more than the sign of its low half.
@@ -66,9 +72,9 @@ fn is_wide(low: u64, high: u64) -> bool
     ensures { λ r. ⌜ r ≡ not (holdsS 8 (twos 16 (low + 256 ^ 8 * high))) ⌝ }
 {
     if low < 0x8000_0000_0000_0000 {
-        return high != 0;
+        return 0 < high;
     }
-    return high != 0xFFFF_FFFF_FFFF_FFFF;
+    return high < 0xFFFF_FFFF_FFFF_FFFF;
 }
 
 // Whether a signed number takes the fewest bytes.
@@ -82,7 +88,11 @@ fn shortest_int(source: &[u8], at: usize, count: u64) -> bool
         3 => return is_between(little::le3(source, at), 0x8000, 0xFF_7FFF),
         4 => return is_between(little::le4(source, at), 0x80_0000, 0xFF7F_FFFF),
         6 => return is_between(little::le6(source, at), 0x8000_0000, 0xFFFF_7FFF_FFFF),
-        8 => return is_between(little::le8(source, at), 0x8000_0000_0000, 0xFFFF_7FFF_FFFF_FFFF),
+        8 => return is_between(
+            little::le8(source, at),
+            0x8000_0000_0000,
+            0xFFFF_7FFF_FFFF_FFFF,
+        ),
         _ => return is_wide(little::le8(source, at), little::le8(source, at + 8)),
     }
 }
@@ -124,8 +134,9 @@ fn shortest_body(source: &[u8], places: Places) -> bool
     requires { ⌜ Stands (now source) places × (places .body .0 ≡ places .first .0 + 1) ⌝ }
     ensures { λ r. ⌜ r ≡ shortest (atomAt (now (source .entry)) places) ⌝ }
 {
-    let first = source[places.first.0];
+    let start = places.first.0;
     let at = places.body.0;
+    let first = source[start];
     let count = (first % 16) as u64 + 1;
     match first / 32 {
         1 => return shortest_int(source, at, count),

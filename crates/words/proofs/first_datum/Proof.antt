@@ -13,4 +13,4 @@ first-datum-spec =
     (λ c. search datum-ends) (λ c. search datum-ends) (λ c. search datum-ends) (λ c. search datum-ends)
     (λ c. search datum-ends) (λ c. search datum-ends) (λ c. search datum-ends) (λ c. search datum-ends)
     (λ c. search datum-ends) (λ c. search datum-ends) (λ c. search datum-ends) (λ c. search datum-ends)
-    (λ c. search datum-ends))
+    (λ c. search datum-ends) (λ c. search datum-ends) (λ c. search datum-ends))

@@ -12,4 +12,4 @@ second-datum-spec =
     (λ c. search datum-ends) (λ c. search datum-ends) (λ c. search datum-ends) (λ c. search datum-ends)
     (λ c. search datum-ends) (λ c. search datum-ends) (λ c. search datum-ends) (λ c. search datum-ends)
     (λ c. search datum-ends) (λ c. search datum-ends) (λ c. search datum-ends) (λ c. search datum-ends)
-    (λ c. search datum-ends) (λ c. search datum-ends))
+    (λ c. search datum-ends) (λ c. search datum-ends) (λ c. search datum-ends) (λ c. search datum-ends))

@@ -1,0 +1,22 @@
+-- `shortest::check` meets its contract: a turn of the loop is a turn of the definition. Each atom takes a byte at least,
+-- so that the bytes left are the measure.
+use Prim.Native.Nat.{_-_}
+use lib.ListN.{length}
+use Rattle.shortest.proofs.Checking.{Checking}
+use Rattle.shortest.proofs.Checking.{check-laws}
+use Rattle.shortest.proofs.check.Statement.{statement}
+use Rattle.shortest.proofs.check.Tie as tie
+
+abbrev Inv-loop : tie.InvT-loop
+Inv-loop source at₀ at = Checking source (at .0)
+
+abbrev μ-loop : tie.MeasureT-loop
+μ-loop source at₀ at = length source - at .0
+
+pub check-spec : {M : Type 1} → statement M
+check-spec =
+    tie.close
+    (tie.spec
+    Inv-loop μ-loop (λ c. search check-laws) (λ c κs. search check-laws) (λ c. search check-laws)
+    (λ c κs. search check-laws) (λ c. search check-laws) (λ c. search check-laws) (λ c. search check-laws)
+    (λ c. search check-laws) (λ c. search check-laws) (λ c. search check-laws))

@@ -1,0 +1,7 @@
+-- `shortest::is_between` meets its contract: each side of the test has its own answer.
+use Rattle.shortest.proofs.Arms.{between-ends}
+use Rattle.shortest.proofs.is_between.Statement.{statement}
+use Rattle.shortest.proofs.is_between.Tie as tie
+
+pub is-between-spec : {M : Type 1} → statement M
+is-between-spec = tie.close (tie.spec (λ c. search between-ends) (λ c. search between-ends))

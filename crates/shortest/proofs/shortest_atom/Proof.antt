@@ -1,0 +1,11 @@
+-- `shortest::shortest_atom` meets its contract: by the length of its header.
+use Rattle.shortest.proofs.Standing.{atom-ends}
+use Rattle.shortest.proofs.shortest_atom.Statement.{statement}
+use Rattle.shortest.proofs.shortest_atom.Tie as tie
+
+pub shortest-atom-spec : {M : Type 1} → statement M
+shortest-atom-spec =
+    tie.close
+    (tie.spec
+    (λ c. search atom-ends) (λ c κs. search atom-ends) (λ c. search atom-ends) (λ c κs. search atom-ends)
+    (λ c. search atom-ends))

@@ -1,0 +1,11 @@
+-- `shortest::shortest_double` meets its contract: narrowing tells the smallest width.
+use Rattle.shortest.proofs.Arms.{width-ends}
+use Rattle.shortest.proofs.shortest_double.Statement.{statement}
+use Rattle.shortest.proofs.shortest_double.Tie as tie
+
+pub shortest-double-spec : {M : Type 1} → statement M
+shortest-double-spec =
+    tie.close
+    (tie.spec
+    (λ c κs. search width-ends) (λ c. search width-ends) (λ c. search width-ends) (λ c. search width-ends)
+    (λ c. search width-ends))

@@ -1,0 +1,11 @@
+-- `shortest::shortest_float` meets its contract: each arm by its width.
+use Rattle.shortest.proofs.Arms.{float-ends}
+use Rattle.shortest.proofs.shortest_float.Statement.{statement}
+use Rattle.shortest.proofs.shortest_float.Tie as tie
+
+pub shortest-float-spec : {M : Type 1} → statement M
+shortest-float-spec =
+    tie.close
+    (tie.spec
+    (λ c. search float-ends) (λ c κs. search float-ends) (λ c. search float-ends) (λ c κs. search float-ends)
+    (λ c. search float-ends) (λ c κs. search float-ends) (λ c κs. search float-ends) (λ c. search float-ends))

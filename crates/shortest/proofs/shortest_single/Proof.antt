@@ -1,0 +1,11 @@
+-- `shortest::shortest_single` meets its contract: narrowing tells the smallest width.
+use Rattle.shortest.proofs.Arms.{width-ends}
+use Rattle.shortest.proofs.shortest_single.Statement.{statement}
+use Rattle.shortest.proofs.shortest_single.Tie as tie
+
+pub shortest-single-spec : {M : Type 1} → statement M
+shortest-single-spec =
+    tie.close
+    (tie.spec
+    (λ c κs. search width-ends) (λ c. search width-ends) (λ c. search width-ends) (λ c. search width-ends)
+    (λ c. search width-ends))

@@ -1,0 +1,13 @@
+-- `shortest::shortest_uint` meets its contract: each arm by the least number that its count is needed for.
+use Rattle.shortest.proofs.Arms.{uint-ends}
+use Rattle.shortest.proofs.shortest_uint.Statement.{statement}
+use Rattle.shortest.proofs.shortest_uint.Tie as tie
+
+pub shortest-uint-spec : {M : Type 1} → statement M
+shortest-uint-spec =
+    tie.close
+    (tie.spec
+    (λ c. search uint-ends) (λ c κs. search uint-ends) (λ c. search uint-ends) (λ c κs. search uint-ends)
+    (λ c. search uint-ends) (λ c κs. search uint-ends) (λ c. search uint-ends) (λ c κs. search uint-ends)
+    (λ c. search uint-ends) (λ c κs. search uint-ends) (λ c. search uint-ends) (λ c. search uint-ends)
+    (λ c κs. search uint-ends) (λ c. search uint-ends))
