@@ -83,25 +83,25 @@ module _ (s : List ℕ) (at : ℕ) (within : at ≤ length s) (budget : Budget) 
 -- ---- the turns of the definition
 
 module _ (s : List ℕ) (fuel left at : ℕ) (enough : fuel ≡ suc left) where
-  check-on : (place : Place) (rest : Budget) (places : Places) (t : Bool) → at < length s →
+  pub check-on : (place : Place) (rest : Budget) (places : Places) (t : Bool) → at < length s →
       Past s at (record { 0 = unlimited }) place rest places t → shortest (between s at (place .0)) ≡ true →
       checkFrom fuel s at ≡ checkFrom left s (place .0)
   unfolding checkFrom
   check-on place rest places t h e k = rw (enough, lt-ltb at (length s) h, e .is, k) refl
 
-  check-longer : (place : Place) (rest : Budget) (places : Places) (t : Bool) → at < length s →
+  pub check-longer : (place : Place) (rest : Budget) (places : Places) (t : Bool) → at < length s →
       Past s at (record { 0 = unlimited }) place rest places t → shortest (between s at (place .0)) ≡ false →
       checkFrom fuel s at ≡ C.Refused R.NotShortest (record { 0 = at })
   unfolding checkFrom
   check-longer place rest places t h e k = rw (enough, lt-ltb at (length s) h, e .is, k) refl
 
-  check-stop : (place : Place) (rest : Budget) (why : Refusal) → at < length s →
+  pub check-stop : (place : Place) (rest : Budget) (why : Refusal) → at < length s →
       skipped s at (record { 0 = unlimited }) ≡ SK.Refused place rest why →
       checkFrom fuel s at ≡ C.Refused why (record { 0 = at })
   unfolding checkFrom
   check-stop place rest why h e = rw (enough, lt-ltb at (length s) h, e) refl
 
-  check-end : length s ≤ at → checkFrom fuel s at ≡ C.Accepted
+  pub check-end : length s ≤ at → checkFrom fuel s at ≡ C.Accepted
   unfolding checkFrom
   check-end h = rw (enough, le-ltb at (length s) h) refl
 

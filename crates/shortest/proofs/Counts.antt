@@ -129,7 +129,7 @@ is-beside l c h =
 
 -- ---- unsigned numbers
 
-written-rising : rising 0 integersWritten ≡ true
+pub written-rising : rising 0 integersWritten ≡ true
 unfolding rising
 written-rising = refl
 

@@ -65,7 +65,7 @@ finite-has f b s m h e =
 
 -- ---- the smallest width
 
-floats-rising : rising 0 floatsRead ≡ true
+pub floats-rising : rising 0 floatsRead ≡ true
 unfolding rising
 floats-rising = refl
 
@@ -125,3 +125,43 @@ half-fewest b h = of (meaning half b) refl
     of (finite s m) e = two-fewest m (finite-has half b s m h e)
     of (infinite s) e = refl
     of (nan s t) e = refl
+
+-- ---- the pattern with a sign and a magnitude
+
+pub pattern-means : (f : Layout) (s : Bool) (m : ℕ) → has f m ≡ true →
+    meaning f (withSign f s (candidate f m)) ≡ finite s m
+pattern-means f s m h =
+    let k = found f m h in
+    ap (λ (x : ℕ). meaning f (withSign f s x)) (k .4)
+    ∙ meaning-signed f s (k .0) (k .1) (le-of-lt (k .2)) (k .3)
+    ∙ meant-finite f s (k .0) (k .1) (k .2)
+    ∙ ap (finite s) (k .5)
+
+pub pattern-below : (f : Layout) (s : Bool) (m : ℕ) → has f m ≡ true → withSign f s (candidate f m) < 2 * signWeight f
+pattern-below f s m h =
+    let k = found f m h in
+    ap-below (k .4) (signed-lt f s (k .0 * leading f + k .1) (rest-lt f (k .0) (k .1) (le-of-lt (k .2)) (k .3)))
+  where
+    ap-below : {x y : ℕ} → x ≡ y → withSign f s y < 2 * signWeight f → withSign f s x < 2 * signWeight f
+    ap-below e h = subst (λ (n : ℕ). withSign f s n < 2 * signWeight f) (sym e) h
+
+-- a width's patterns are the numbers of its bytes
+pub width-patterns : (c : ℕ) → allowedFloat c ≡ true → 2 * signWeight (layoutAt c) ≡ 256 ^ c
+width-patterns c a = of (allowed-is c a)
+  where
+    of : Allowed c → 2 * signWeight (layoutAt c) ≡ 256 ^ c
+    of (two e) = rw e refl
+    of (four e) = rw e refl
+    of (eight e) = rw e refl
+
+pub pattern-lt : (c : ℕ) (s : Bool) (m : ℕ) → allowedFloat c ≡ true → has (layoutAt c) m ≡ true →
+    withSign (layoutAt c) s (candidate (layoutAt c) m) < 256 ^ c
+pattern-lt c s m a h =
+    subst (λ (n : ℕ). withSign (layoutAt c) s (candidate (layoutAt c) m) < n) (width-patterns c a)
+    (pattern-below (layoutAt c) s m h)
+
+pub infinity-low : (c : ℕ) (s : Bool) → allowedFloat c ≡ true →
+    withSign (layoutAt c) s (infinity (layoutAt c)) < 256 ^ c
+infinity-low c s a =
+    subst (λ (n : ℕ). withSign (layoutAt c) s (infinity (layoutAt c)) < n) (width-patterns c a)
+    (infinity-lt (layoutAt c) s)

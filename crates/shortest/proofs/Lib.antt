@@ -4,3 +4,7 @@ pub mod Headers
 pub mod Arms
 pub mod Standing
 pub mod Checking
+pub mod Forms
+pub mod Meanings
+pub mod Lists
+pub mod Answers
