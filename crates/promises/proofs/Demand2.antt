@@ -318,12 +318,12 @@ less-nothing n = omega arith
 under : (k n m : ℕ) → k < n → n ≤ m → k < m
 under k n m h l = omega arith
 
-held-by : (n : ℕ) (z : ℤ) → n ≤ 256 ^ 16 / 2 → ltb (mag z) n ≡ true → holdsS 16 z ≡ true
+pub held-by : (n : ℕ) (z : ℤ) → n ≤ 256 ^ 16 / 2 → ltb (mag z) n ≡ true → holdsS 16 z ≡ true
 unfolding holdsS
 held-by n (pos k) l h = lt-ltb k (256 ^ 16 / 2) (under k n (256 ^ 16 / 2) (ltb-true k n h) l)
 held-by n (negsuc k) l h = lt-ltb k (256 ^ 16 / 2) (under k n (256 ^ 16 / 2) (ltb-true k n h) l)
 
-natural-by : (n k : ℕ) → n ≤ 256 ^ 16 → ltb k n ≡ true → k < 256 ^ 16
+pub natural-by : (n k : ℕ) → n ≤ 256 ^ 16 → ltb k n ≡ true → k < 256 ^ 16
 natural-by n k l h = under k n (256 ^ 16) (ltb-true k n h) l
 
 module _ (way : Way) (before after : List ℕ) (budget : Budget) (scratch : List ℕ) where

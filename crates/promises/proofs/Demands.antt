@@ -22,6 +22,9 @@ use Rattle.types.specs.declared.Kind.the-variants as K
 use Rattle.types.specs.declared.Integer.{Integer}
 use Rattle.types.specs.declared.Float.{Float}
 use Rattle.types.specs.declared.Refusal.{Refusal}
+use Rattle.types.specs.declared.Refusal.the-variants as R
+use Rattle.types.specs.declared.Checked.the-variants as C
+use Rattle.types.specs.declared.TallyAnswer.the-variants as TA
 use Rattle.types.specs.declared.HeaderAnswer.{HeaderAnswer}
 use Rattle.types.specs.declared.HeaderAnswer.the-variants as H
 use Rattle.header.specs.Header.{headerRead, headerLength}
@@ -33,10 +36,14 @@ use Rattle.binary.proofs.Laws.{widened-keeps, widened-nan}
 use Rattle.atom.specs.Atoms.{atomRead, atomScratch}
 use Rattle.dictionary.specs.Runs.{runAll, tallyAll, mostBytes}
 use Rattle.dictionary.specs.Wholes.{Atoms, total, price, bodyBytes, lettersIn, placesAt, lastFrom, lastPlaces}
-use Rattle.dictionary.specs.Prices.{Passing, asked, Barred, Made, Broken}
+use Rattle.dictionary.specs.Prices.{priced, Passing, asked, Barred, Made, Broken}
 use Rattle.dictionary.proofs.Price as Price
+use Rattle.shortest.specs.Meanings.{Meant, meanings, Bytes, AllProper}
+use Rattle.shortest.specs.Forms.{Accepted, shortestAtoms, joined}
+use Rattle.shortest.specs.Checks.{checkAll}
+use Rattle.shortest.proofs.Lists as Lists
 use Rattle.promises.specs.Told.{Told, told, refused, placesTold, toldAtom, toldRan, toldTally, toldNarrowed16}
-use Rattle.promises.specs.Told.{toldNarrowed32}
+use Rattle.promises.specs.Told.{toldChecked, toldNarrowed32}
 use Rattle.promises.specs.Held.{copied}
 use Rattle.promises.specs.Rows.{Row, Good, roomOf, taking}
 use Rattle.promises.specs.Entries.{KindRows, SpecialRows, HeaderRows, SignatureRows, BudgetRows, IntegerRows}
@@ -47,12 +54,14 @@ use Rattle.promises.specs.Floats.{Ieee754}
 use Rattle.promises.specs.Runs.{RunRow}
 use Rattle.promises.specs.Placed.{Stands, between, earlier, moved, Chain, anyWay, exactly, Each, Level, Ahead}
 use Rattle.promises.specs.Values.{Value, written, roomFor, ReadBack}
+use Rattle.promises.specs.Deliveries.{CheckRow, writtenAll, meantAll, AllStorable, AllWritable}
 use Rattle.promises.proofs.Demand1 as Demand1
 use Rattle.promises.proofs.Entries as Entries
 use Rattle.promises.proofs.Runs as Runs
 use Rattle.promises.proofs.Stands as Stands
 use Rattle.promises.proofs.Alone as Alone
 use Rattle.promises.proofs.Demand2 as Demand2
+use Rattle.promises.proofs.Deliveries as Deliveries
 use Rattle.promises.proofs.IntegerCasts as IntegerCasts
 use Rattle.promises.proofs.Integrals as Integrals
 use Rattle.promises.proofs.FloatCasts as FloatCasts
@@ -294,3 +303,74 @@ demand3-otherwise s = ⊎-elim inl (λ broken. inr (broken, stops broken)) (Pric
       reported = λ short. ap toldTally (Price.tally-broken s broken short);
       afforded = λ budget enough. Runs.broken-run s broken budget enough;
     }
+
+-- DELIVERIES IN SHORTEST FORM (document 02, K3). Every list has its row of the check: accepted, or refused at the first
+-- atom that is not whole, not known or not in shortest form, by 3, 4 or 6, and only then 11, with the place where that
+-- atom starts;
+pub shortest-check : (s : List ℕ) → CheckRow s (toldChecked (checkAll s))
+shortest-check = Deliveries.every-check
+
+-- and the row that fits is its answer.
+pub shortest-check-one : (s : List ℕ) {answer : Told} → CheckRow s answer → answer ≡ toldChecked (checkAll s)
+shortest-check-one = Deliveries.one-check
+
+-- What is accepted, the tally counts; what is refused by 3, 4 or 6, it refuses alike, at the same place.
+pub shortest-tally : (s : List ℕ) → length s ≤ mostBytes → checkAll s ≡ C.Accepted →
+    (atoms : List (List ℕ)) × (tallyAll s ≡ TA.Done (lastPlaces atoms) (priced atoms))
+shortest-tally = Deliveries.accepted-tally
+
+pub shortest-tally-refused : (s : List ℕ) → length s ≤ mostBytes → (why : Refusal) (start : Place) →
+    checkAll s ≡ C.Refused why start →
+    (why ≡ R.NotShortest → ⊥) →
+    (last : Places) × (tallyAll s ≡ TA.Stopped last why start)
+shortest-tally-refused = Deliveries.refused-tally
+
+-- ONE FORM FOR EACH MEANING: two accepted lists with equal meanings have equal bytes.
+pub shortest-one : {s t : List ℕ} {atoms others : List (List ℕ)} →
+    Accepted s atoms →
+    Accepted t others →
+    Bytes s →
+    Bytes t →
+    meanings atoms ≡ meanings others →
+    s ≡ t
+shortest-one = Lists.one-form
+
+-- EACH MEANING HAS ONE: the shortest bytes of a list of meanings are accepted, and have those meanings;
+pub shortest-each : {ms : List Meant} →
+    AllProper ms →
+    Accepted (joined (shortestAtoms ms)) (shortestAtoms ms)
+    × (meanings (shortestAtoms ms) ≡ ms)
+    × Bytes (joined (shortestAtoms ms))
+shortest-each ps = (Lists.each-accepted ps, Lists.each-means ps, Lists.each-bytes ps)
+
+-- and back: an accepted list has such meanings, and is their shortest bytes. So the two are the same thing, both ways.
+pub shortest-back : {s : List ℕ} {atoms : List (List ℕ)} →
+    Accepted s atoms →
+    Bytes s →
+    AllProper (meanings atoms) × (shortestAtoms (meanings atoms) ≡ atoms) × (joined atoms ≡ s)
+shortest-back a B = (Lists.list-proper (a .wholes) B, Lists.accepted-is a B, Lists.atoms-joined (a .wholes))
+
+-- NONE IS SHORTER: no accepted list is longer than another whole, known list with the same meanings.
+pub shortest-least : {s t : List ℕ} {atoms others : List (List ℕ)} →
+    Accepted s atoms →
+    Atoms t others →
+    Bytes s →
+    Bytes t →
+    meanings atoms ≡ meanings others →
+    length s ≤ length t
+shortest-least = Lists.none-shorter
+
+-- WHAT OUR WRITERS OF VALUES WRITE IS ACCEPTED, each writer, every value, and lists of it, with the meanings of what was
+-- given;
+pub shortest-written : {vs : List Value} →
+    AllStorable vs →
+    Accepted (joined (writtenAll vs)) (writtenAll vs) × (meanings (writtenAll vs) ≡ meantAll vs)
+shortest-written = Deliveries.written-accepted
+
+-- and an accepted list is what our writers write, but for a NaN of 2 bytes.
+pub shortest-writes : {s : List ℕ} {atoms : List (List ℕ)} →
+    Accepted s atoms →
+    Bytes s →
+    AllWritable (meanings atoms) →
+    (vs : List Value) × (writtenAll vs ≡ atoms)
+shortest-writes = Deliveries.accepted-written

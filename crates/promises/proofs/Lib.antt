@@ -13,6 +13,7 @@ pub mod FloatCast
 pub mod Atom
 pub mod Letters
 pub mod Dictionary
+pub mod Shortest
 pub mod SliceReader
 pub mod Report
 pub mod ReportText
@@ -35,5 +36,6 @@ pub mod Compared
 pub mod Integrals
 pub mod FloatCasts
 pub mod Demand2
+pub mod Deliveries
 pub mod Demands
 pub mod Starred

@@ -7,3 +7,4 @@ pub mod Floats
 pub mod Values
 pub mod Runs
 pub mod Placed
+pub mod Deliveries

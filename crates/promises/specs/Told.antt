@@ -84,6 +84,8 @@ use Rattle.types.specs.declared.Ran.the-variants as RN
 use Rattle.types.specs.declared.Tallied.{Tallied}
 use Rattle.types.specs.declared.TallyAnswer.{TallyAnswer}
 use Rattle.types.specs.declared.TallyAnswer.the-variants as TA
+use Rattle.types.specs.declared.Checked.{Checked}
+use Rattle.types.specs.declared.Checked.the-variants as C
 
 -- the number, and the values in the order of the answer's fields
 pub record Told : Type 0 where
@@ -161,6 +163,11 @@ abbrev pub toldTally : TallyAnswer → Told
 toldTally (TA.Done last t) = taken (placesTold last (tallyTold t))
 toldTally (TA.Stopped last r start) = refused (placesTold last (pos (start .0) ∷ [])) r
 toldTally (TA.Refused last r) = refused (placesTold last []) r
+
+-- the check for shortest form: nothing, or where the refused atom starts
+abbrev pub toldChecked : Checked → Told
+toldChecked C.Accepted = taken []
+toldChecked (C.Refused r start) = refused (pos (start .0) ∷ []) r
 
 -- an integer by its variant, signed or not and so many bits wide, and its value
 abbrev signTold : Sign → ℕ

@@ -4,15 +4,14 @@ use mathlib.Core.Path.{_≡_, refl, _∙_, sym, ap, subst}
 use mathlib.Core.Bool.{Bool, true, false, false≢true}
 use mathlib.Core.List.{List, [], _∷_, _++_, append-assoc, append-nil}
 use mathlib.Core.Logic.{_⊎_, inl, inr, ⊎-elim}
-use Prim.Native.Nat.{ℕ, zero, suc, _+_, _-_, _≤_, _<_}
+use Prim.Native.Nat.{ℕ, suc, _+_, _-_, _≤_}
 use native.Mathlib.Omega.{arith}
 use lib.ListN.{length, take, drop, length-append}
 use lib.Seq.{drop-append-seam, take-at}
 use Rattle.types.specs.declared.Refusal.{Refusal}
 use Rattle.types.specs.declared.Refusal.the-variants as R
-use Rattle.types.specs.declared.Checked.{Checked}
 use Rattle.types.specs.declared.Checked.the-variants as C
-use Rattle.dictionary.specs.Wholes.{IsAtom, Atoms, Spoilt}
+use Rattle.dictionary.specs.Wholes.{IsAtom, Atoms}
 use Rattle.dictionary.specs.Wholes as Wholes
 use Rattle.dictionary.specs.Prices.{Made, Broken}
 use Rattle.dictionary.specs.Runs.{unlimited}

@@ -7,14 +7,13 @@ use Prim.Native.Nat.{ℕ, suc, _+_, _-_, _*_, _/_, _^_, _≤_, _<_}
 use native.Mathlib.Omega.{arith}
 use native.Mathlib.Nat.{mul-suc, mul-one, mul-zero, mul-le-mul-left}
 use borrow.Author.Needs.{needs}
-use borrow.Author.Tests.{lt-ltb, le-ltb, le-leb, lt-leb, ltb-true, ltb-false, eq-eqb, ne-eqb}
+use borrow.Author.Tests.{le-leb, lt-leb, ltb-true, ltb-false}
 use borrow.Rule.Slice.Know.{Fit}
 use borrow.Table.Referent.{fInt}
 use lib.Dec.{ltb, leb, eqb, lit<}
-use lib.ListN.{length, getD}
 use mir.Syntax.{w8, w32, w64}
 use mir.Val.{Fits}
-use Rattle.types.specs.Forms.{integersWritten, allowedCount, allowedFloat}
+use Rattle.types.specs.Forms.{integersWritten, allowedCount}
 use Rattle.little.specs.Le.{numberAt}
 use Rattle.little.specs.Twos.{twos}
 use Rattle.little.specs.Counts.{holdsS, shortestU, shortestS}
@@ -22,7 +21,7 @@ use Rattle.little.proofs.At.{number-lt, number-add}
 use Rattle.integer.proofs.Counts.{allowed-bounds}
 use Rattle.integer.proofs.Arms.{NotSmaller, sixteen-there}
 use Rattle.binary.specs.Formats.{single, double, half, meaning}
-use Rattle.binary.specs.Conversions.{Narrowed, kept, lost, narrowed, answer16, answer32}
+use Rattle.binary.specs.Conversions.{narrowed, answer16, answer32}
 use Rattle.binary.specs.declared.Narrowed16.{Narrowed16}
 use Rattle.binary.specs.declared.Narrowed16.the-variants as N16
 use Rattle.binary.specs.declared.Narrowed32.{Narrowed32}

@@ -10,9 +10,6 @@ use borrow.Author.Tests.{lt-ltb, le-ltb, leb-true, leb-false}
 use lib.Dec.{leb}
 use lib.ListN.{length, take, drop, length-drop, take-append-drop}
 use lib.Seq.{length-take-le}
-use Rattle.types.specs.Choice.{pick}
-use Rattle.types.specs.Counters.{placesOf}
-use Rattle.types.specs.Forms.{bodyLength}
 use Rattle.types.specs.declared.Place.{Place}
 use Rattle.types.specs.declared.Places.{Places}
 use Rattle.types.specs.declared.Budget.{Budget}
@@ -22,8 +19,8 @@ use Rattle.types.specs.declared.Skipped.{Skipped}
 use Rattle.types.specs.declared.Skipped.the-variants as SK
 use Rattle.types.specs.declared.Checked.{Checked}
 use Rattle.types.specs.declared.Checked.the-variants as C
-use Rattle.header.specs.Header.{headerKind, headerArgument, headerLength}
-use Rattle.dictionary.specs.Wholes.{IsAtom, bodyBytes}
+use Rattle.header.specs.Header.{headerLength}
+use Rattle.dictionary.specs.Wholes.{bodyBytes}
 use Rattle.dictionary.specs.Steps.{skipped}
 use Rattle.dictionary.specs.Runs.{unlimited}
 use Rattle.dictionary.proofs.Bodies.{passed}

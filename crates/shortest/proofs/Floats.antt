@@ -3,25 +3,22 @@
 -- magnitude, there and back. Rests on the laws of narrowing and widening, `binary.Laws`.
 use mathlib.Core.Path.{_≡_, refl, _∙_, sym, ap, subst}
 use mathlib.Core.Bool.{Bool, true, false, not, cond, false≢true}
-use mathlib.Core.List.{List}
 use Prim.Native.Nat.{ℕ, _*_, _+_, _^_, _≤_, _<_}
 use native.Mathlib.Omega.{arith}
 use native.Mathlib.Nat.{le-of-lt}
 use lib.Dec.{eqb}
-use Rattle.types.specs.Forms.{floatsRead, listed, allowedFloat}
-use Rattle.binary.specs.Formats.{Layout, half, single, double, leading, signWeight, allOnes, magnitude, Meaning, finite, infinite, nan, meaning, NotNan}
-use Rattle.binary.specs.Conversions.{withSign, infinity, candidate, has, Narrowed, kept, lost, narrowed, narrowedMeaning, answer16, answer32}
-use Rattle.binary.specs.declared.Narrowed16 as N16
-use Rattle.binary.specs.declared.Narrowed32 as N32
-use Rattle.binary.proofs.Patterns.{rest-lt, signed-lt, meaning-signed, meant-finite, has-it, one-pattern}
-use Rattle.binary.proofs.Narrowing.{narrowed-by, found, infinite-here, infinity-lt}
-use Rattle.binary.proofs.Laws.{narrowed-complete, kept16, lost16, kept32, lost32}
+use Rattle.types.specs.Forms.{floatsRead, allowedFloat}
+use Rattle.binary.specs.Formats.{Layout, half, single, double, leading, signWeight, magnitude, Meaning, finite, infinite, nan, meaning, NotNan}
+use Rattle.binary.specs.Conversions.{withSign, infinity, candidate, has, Narrowed, kept, lost, narrowed, narrowedMeaning}
+use Rattle.binary.proofs.Patterns.{rest-lt, signed-lt, meaning-signed, meant-finite, has-it}
+use Rattle.binary.proofs.Narrowing.{narrowed-by, found, infinity-lt}
+use Rattle.binary.proofs.Laws.{narrowed-complete}
 use Rattle.binary.proofs.Widths.{Widens, half-single, single-double, lifted}
 use Rattle.float.specs.Floats.{layoutAt}
 use Rattle.float.proofs.Counts.{Allowed, two, four, eight, allowed-is}
 use Rattle.little.specs.Counts.{firstThat}
 use Rattle.little.proofs.Shortest.{rising}
-use Rattle.shortest.specs.Meanings.{Meant, floatMeant}
+use Rattle.shortest.specs.Meanings.{floatMeant}
 use Rattle.shortest.specs.Forms.{shortestF, fewest}
 use Rattle.shortest.proofs.Counts.{before, beside, is-beside, first-is}
 

@@ -5,13 +5,12 @@ use mathlib.Core.Bool.{Bool, true, false, _&&_}
 use mathlib.Core.List.{List, [], _∷_, _++_}
 use Prim.Native.Nat.{ℕ, zero, suc, _+_, _-_, _*_, _/_, _%_, _^_, _≤_, _<_}
 use native.Mathlib.Omega.{arith}
-use native.Mathlib.Nat.{mod-eq-of-lt, mod-lt, le-of-lt}
-use lib.Dec.{ltb, eqb, lit<, lit≤}
-use lib.IntN.{ℤ}
-use lib.ListN.{length, take, drop, getD, length-append}
+use native.Mathlib.Nat.{mod-eq-of-lt, mod-lt}
+use lib.Dec.{ltb, lit<}
+use lib.ListN.{length, take, drop, length-append}
 use lib.Seq.{drop-append-seam, take-append-seam}
 use borrow.Author.Tests.{eq-eqb, ltb-true, ltb-false, lt-ltb}
-use Rattle.types.specs.Kinds.{kindCode, specialCode, specialFrom, specialKnown}
+use Rattle.types.specs.Kinds.{kindCode, specialCode, specialKnown}
 use Rattle.types.specs.Forms.{integersWritten, floatsRead, sizes, countOf, allowedCount, allowedFloat, listed, known, bodyLength}
 use Rattle.types.specs.declared.Kind.{Kind}
 use Rattle.types.specs.declared.Kind.the-variants as K
@@ -22,25 +21,24 @@ use Rattle.header.specs.Header.{laterBytes, headerBytes, headerKind, headerArgu
 use Rattle.header.proofs.Answers.{bytes-one, bytes-more}
 use Rattle.header.proofs.Groups.{last-group, group}
 use Rattle.header.proofs.RoundTrip.{Back, back}
-use Rattle.header.proofs.Fewest.{length-bounds}
 use Rattle.little.specs.Le.{fromLE, toLE}
 use Rattle.little.specs.Twos.{twos, twosBits}
-use Rattle.little.specs.Counts.{holdsU, holdsS, firstThat, shortestU, shortestS}
+use Rattle.little.specs.Counts.{holdsU, holdsS, shortestU, shortestS}
 use Rattle.little.proofs.Width.{from-to-fits, to-length}
 use Rattle.little.proofs.Two.{twos-bits, bits-lt}
 use Rattle.little.proofs.Shortest.{first-holds, first-listed}
 use Rattle.integer.proofs.Counts.{allowed-bounds}
-use Rattle.binary.specs.Formats.{Layout, signWeight, meaning, Meaning, finite, infinite}
+use Rattle.binary.specs.Formats.{meaning, Meaning, finite, infinite}
 use Rattle.binary.specs.Formats as Ieee
 use Rattle.binary.specs.Conversions.{withSign, candidate, has}
 use Rattle.binary.specs.Conversions as Binary
-use Rattle.binary.proofs.Narrowing.{infinite-here, infinity-lt}
+use Rattle.binary.proofs.Narrowing.{infinite-here}
 use Rattle.float.specs.Floats.{layoutAt}
-use Rattle.float.proofs.Counts.{Allowed, two, four, eight, allowed-is, allowed-most}
+use Rattle.float.proofs.Counts.{Allowed, two, four, eight, allowed-is}
 use Rattle.dictionary.specs.Wholes.{IsAtom}
 use Rattle.shortest.specs.Meanings.{Meant, special, int, uint, float, infinity, nan, sequence, map, symbol, bytes}
 use Rattle.shortest.specs.Meanings.{kindOf, floatMeant, meantBy, meant, Bytes, HeldBy, Proper}
-use Rattle.shortest.specs.Forms.{sameBytes, shortestHeader, shortestF, fewest, shortest, argumentAt, bodyAt, formAt, fewestCount, shortestBytes}
+use Rattle.shortest.specs.Forms.{shortestHeader, shortestF, fewest, shortest, argumentAt, bodyAt, formAt, fewestCount, shortestBytes}
 use Rattle.shortest.proofs.Headers.{is-same}
 use Rattle.shortest.proofs.Floats.{pattern-means, pattern-lt, infinity-low}
 

@@ -2,23 +2,21 @@
 -- and, being the tenth, has none of the bits that are dropped. Over the number of later bytes, by induction.
 use mathlib.Core.Path.{_≡_, refl, _∙_, sym, ap, subst}
 use mathlib.Core.Bool.{Bool, true, false, false≢true}
-use mathlib.Core.List.{List, [], _∷_, _++_}
+use mathlib.Core.List.{List, [], _∷_}
 use Prim.Native.Nat.{ℕ, zero, suc, _+_, _-_, _*_, _/_, _%_, _^_, _≤_, _<_}
 use native.Mathlib.Omega.{arith}
 use native.Mathlib.Nat.{pow-suc, pow-succ', div-div-eq-div-mul, mod-eq-of-lt, div-one, mul-comm, mul-assoc}
 use native.Mathlib.Nat.{pow-le-pow-right}
 use lib.Dec.{ltb, eqb, lit<}
-use lib.ListN.{length, take, drop, getD, take-append-drop}
+use lib.ListN.{length, take, getD}
 use lib.Seq.{getD-take, length-take-le}
-use borrow.Author.Tests.{ltb-true, ltb-false, lt-ltb, le-ltb, eqb-true, eqb-false, eq-eqb}
-use Rattle.types.specs.Choice.{pick}
+use borrow.Author.Tests.{ltb-true, ltb-false, eqb-true, eqb-false, eq-eqb}
 use Rattle.types.specs.Kinds.{kindCode, kindFrom, kindKnown}
-use Rattle.types.specs.declared.Kind.{Kind}
 use Rattle.header.specs.Header.{laterCount, laterValue, laterBytes, headerBytes, headerKind, headerArgument, headerLength, moreFollow, afterFirst}
 use Rattle.header.proofs.Later.{count-more, count-last, value-more, value-last}
 use Rattle.header.proofs.Groups.{last-group, group, more}
-use Rattle.header.proofs.Answers.{bytes-one, bytes-more, none-follow, one-length, one-argument, more-length, more-argument}
-use Rattle.header.proofs.Fewest.{value-low, count-most, count-least, argument-word, length-bounds}
+use Rattle.header.proofs.Answers.{bytes-one, bytes-more, one-length, one-argument, more-length, more-argument}
+use Rattle.header.proofs.Fewest.{value-low, count-least, argument-word, length-bounds}
 use Rattle.shortest.specs.Meanings.{Bytes}
 use Rattle.shortest.specs.Forms.{sameBytes, shortestHeader}
 

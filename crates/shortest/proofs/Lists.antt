@@ -4,14 +4,13 @@
 use mathlib.Core.Path.{_≡_, refl, _∙_, sym, ap, subst}
 use mathlib.Core.Bool.{Bool, true, false, false≢true}
 use mathlib.Core.List.{List, [], _∷_, _++_}
-use Prim.Native.Nat.{ℕ, zero, suc, _+_, _≤_, _<_}
+use Prim.Native.Nat.{ℕ, zero, suc, _≤_}
 use native.Mathlib.Omega.{arith}
 use lib.Dec.{lit<}
-use lib.ListN.{length, getD, length-append}
-use Rattle.types.specs.Choice.{pick}
-use Rattle.dictionary.specs.Wholes.{IsAtom, Atoms}
+use lib.ListN.{length, length-append}
+use Rattle.dictionary.specs.Wholes.{Atoms}
 use Rattle.dictionary.specs.Wholes as Wholes
-use Rattle.shortest.specs.Meanings.{Meant, meant, meanings, Bytes, Proper, AllProper}
+use Rattle.shortest.specs.Meanings.{Meant, meant, meanings, Bytes, AllProper}
 use Rattle.shortest.specs.Meanings as Meanings
 use Rattle.shortest.specs.Forms.{shortest, allShortest, Accepted, shortestBytes, shortestAtoms, joined}
 use Rattle.shortest.proofs.Forms.{shortest-atom, shortest-means, shortest-accepted, shortest-bytes, append-bytes}

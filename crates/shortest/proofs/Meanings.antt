@@ -4,24 +4,24 @@
 use mathlib.Core.Path.{_≡_, refl, _∙_, sym, ap, subst}
 use mathlib.Core.Bool.{Bool, true, false, _&&_, false≢true}
 use mathlib.Core.List.{List, [], _∷_, _++_}
-use Prim.Native.Nat.{ℕ, zero, suc, _+_, _-_, _*_, _%_, _^_, _≤_, _<_}
+use Prim.Native.Nat.{ℕ, zero, suc, _+_, _-_, _*_, _^_, _≤_, _<_}
 use native.Mathlib.Omega.{arith}
 use native.Mathlib.Nat.{mod-eq-of-lt}
-use lib.Dec.{ltb, eqb, lit<}
+use lib.Dec.{ltb}
 use lib.IntN.{ℤ}
-use lib.ListN.{length, take, drop, getD, length-append, length-drop, take-append-drop}
+use lib.ListN.{length, take, drop, length-append, length-drop, take-append-drop}
 use lib.Seq.{take-length}
 use borrow.Author.Tests.{eqb-true, ltb-true, ltb-false, lt-ltb}
 use Rattle.types.specs.Kinds.{specialCode, specialFrom, specialKnown}
-use Rattle.types.specs.Forms.{integersWritten, floatsRead, sizes, countOf, allowedCount, allowedFloat, listed, known, bodyLength}
+use Rattle.types.specs.Forms.{integersWritten, floatsRead, sizes, countOf, allowedCount, allowedFloat, known, bodyLength}
 use Rattle.types.specs.declared.Kind.{Kind}
 use Rattle.types.specs.declared.Kind.the-variants as K
 use Rattle.header.specs.Header.{headerBytes, headerKind, headerArgument, headerLength}
 use Rattle.header.proofs.Answers.{bytes-one}
 use Rattle.header.proofs.Fewest as Header
 use Rattle.little.specs.Le.{fromLE, toLE, numberAt}
-use Rattle.little.specs.Twos.{twos, twosBits}
-use Rattle.little.specs.Counts.{holdsU, holdsS, firstThat, shortestU, shortestS}
+use Rattle.little.specs.Twos.{twosBits}
+use Rattle.little.specs.Counts.{holdsU, holdsS, shortestU, shortestS}
 use Rattle.little.proofs.Width.{to-from, to-length}
 use Rattle.little.proofs.At.{number-lt}
 use Rattle.little.proofs.Two.{bits-twos, twos-held, holdsU-more, holdsS-more}
@@ -250,7 +250,7 @@ unfolding shortestU
 uint-most c k a h =
     first-most integersWritten written-rising (λ n. holdsU n k) (λ n m i j. holdsU-more n m k) c a h
 
-float-most : (c m : ℕ) → allowedFloat c ≡ true → has (layoutAt c) m ≡ true → shortestF m ≤ c
+pub float-most : (c m : ℕ) → allowedFloat c ≡ true → has (layoutAt c) m ≡ true → shortestF m ≤ c
 unfolding shortestF
 float-most c m a h = first-most floatsRead floats-rising (λ n. has (layoutAt n) m) (has-more m) c a h
 
@@ -263,7 +263,7 @@ number-least kind n c bits h most =
     let long = to-length n bits in
     omega arith
 
-float-least : (c : ℕ) → allowedFloat c ≡ true → 2 ≤ c
+pub float-least : (c : ℕ) → allowedFloat c ≡ true → 2 ≤ c
 float-least c a = of (allowed-is c a)
   where
     of : Allowed c → 2 ≤ c

@@ -11,24 +11,24 @@ use borrow.Author.Tests.{ltb-true, ltb-false, eqb-true}
 use borrow.Rule.Slice.Know.{Fit}
 use borrow.Table.Referent.{fInt}
 use lib.Dec.{ltb, eqb, lit<}
-use lib.ListN.{length, take, drop, getD, length-drop, List·getD-eq-default}
+use lib.ListN.{length, take, drop, getD, length-drop}
 use lib.Seq.{getD-take, getD-drop, length-take-le, drop-drop}
 use mir.Syntax.{w8}
 use Rattle.types.specs.Kinds.{kindCode, kindFrom, kindKnown}
-use Rattle.types.specs.Forms.{sizes, countOf, allowedCount, allowedFloat, known, bodyLength}
+use Rattle.types.specs.Forms.{countOf, allowedCount, allowedFloat, known, bodyLength}
 use Rattle.types.specs.declared.Kind.{Kind}
 use Rattle.types.specs.declared.Kind.the-variants as K
 use Rattle.types.specs.declared.Places.{Places}
 use Rattle.header.specs.Header.{headerKind, headerArgument, headerLength, headerBytes, moreFollow}
-use Rattle.header.proofs.Answers.{bytes-one, one-argument, one-length, more-length}
+use Rattle.header.proofs.Answers.{bytes-one, one-argument, more-length}
 use Rattle.header.proofs.Fewest.{length-bounds, argument-word, count-least}
-use Rattle.little.specs.Le.{fromLE, numberAt}
+use Rattle.little.specs.Le.{numberAt}
 use Rattle.little.specs.Twos.{twos}
 use Rattle.little.specs.Counts.{shortestU, shortestS}
 use Rattle.integer.proofs.Counts.{allowed-bounds}
 use Rattle.float.proofs.Counts.{Allowed, two, four, eight, allowed-is, allowed-most}
 use Rattle.dictionary.specs.Wholes.{IsAtom}
-use Rattle.shortest.specs.Meanings.{Meant, Bytes, meantBy, meant, floatMeant}
+use Rattle.shortest.specs.Meanings.{Bytes, meantBy, meant}
 use Rattle.shortest.specs.Forms.{shortestHeader, fewest, shortest}
 use Rattle.shortest.specs.Steps.{atomAt, Stands, floatAt}
 use Rattle.shortest.proofs.Headers.{same-is, code-back, header-one, zero-last, short-last, tenth-last}

@@ -14,7 +14,6 @@ use Rattle.header.specs.Header.{headerKind, headerArgument, headerLength, heade
 use Rattle.little.specs.Le.{toLE}
 use Rattle.little.specs.Twos.{twosBits}
 use Rattle.little.specs.Counts.{firstThat, shortestU, shortestS}
-use Rattle.binary.specs.Formats.{half}
 use Rattle.binary.specs.Conversions.{withSign, candidate, has}
 use Rattle.binary.specs.Conversions as Binary
 use Rattle.float.specs.Floats.{layoutAt}

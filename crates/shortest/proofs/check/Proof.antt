@@ -13,10 +13,22 @@ Inv-loop source at₀ at = Checking source (at .0)
 abbrev μ-loop : tie.MeasureT-loop
 μ-loop source at₀ at = length source - at .0
 
+loop-again : tie.Need-loop-again Inv-loop μ-loop
+loop-again c = search check-laws
+
+returns : tie.Need-returns Inv-loop μ-loop
+returns c = search check-laws
+
+returns-2 : tie.Need-returns-2 Inv-loop μ-loop
+returns-2 c = search check-laws
+
+returns-3 : tie.Need-returns-3 Inv-loop μ-loop
+returns-3 c = search check-laws
+
 pub check-spec : {M : Type 1} → statement M
 check-spec =
     tie.close
     (tie.spec
     Inv-loop μ-loop (λ c. search check-laws) (λ c κs. search check-laws) (λ c. search check-laws)
-    (λ c κs. search check-laws) (λ c. search check-laws) (λ c. search check-laws) (λ c. search check-laws)
-    (λ c. search check-laws) (λ c. search check-laws) (λ c. search check-laws))
+    (λ c κs. search check-laws) (λ c. search check-laws) loop-again returns (λ c. search check-laws) returns-2
+    returns-3)

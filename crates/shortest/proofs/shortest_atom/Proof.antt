@@ -3,9 +3,11 @@ use Rattle.shortest.proofs.Standing.{atom-ends}
 use Rattle.shortest.proofs.shortest_atom.Statement.{statement}
 use Rattle.shortest.proofs.shortest_atom.Tie as tie
 
+returns : tie.Need-returns
+returns c = search atom-ends
+
 pub shortest-atom-spec : {M : Type 1} → statement M
 shortest-atom-spec =
     tie.close
     (tie.spec
-    (λ c. search atom-ends) (λ c κs. search atom-ends) (λ c. search atom-ends) (λ c κs. search atom-ends)
-    (λ c. search atom-ends))
+    (λ c. search atom-ends) (λ c κs. search atom-ends) returns (λ c κs. search atom-ends) (λ c. search atom-ends))

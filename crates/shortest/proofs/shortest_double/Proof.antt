@@ -3,9 +3,14 @@ use Rattle.shortest.proofs.Arms.{width-ends}
 use Rattle.shortest.proofs.shortest_double.Statement.{statement}
 use Rattle.shortest.proofs.shortest_double.Tie as tie
 
+returns : tie.Need-returns
+returns c = search width-ends
+
+returns-2 : tie.Need-returns-2
+returns-2 c = search width-ends
+
 pub shortest-double-spec : {M : Type 1} → statement M
 shortest-double-spec =
     tie.close
     (tie.spec
-    (λ c κs. search width-ends) (λ c. search width-ends) (λ c. search width-ends) (λ c. search width-ends)
-    (λ c. search width-ends))
+    (λ c κs. search width-ends) (λ c. search width-ends) returns (λ c. search width-ends) returns-2)
