@@ -18,7 +18,7 @@ fn answer_reader(
         0x22 => replay_floats::answer(code, request, cursor, bytes, out),
         0x23..=0x25 => replay_strings::answer(code, request, cursor, bytes, scratch, out),
         0x26 | 0x2B => replay_slices::answer(code, request, cursor, bytes, out),
-        0x29 | 0x2A | 0x2C => replay_dictionary::answer(code, request, cursor, bytes, out),
+        0x29 | 0x2A | 0x2C | 0x2D => replay_dictionary::answer(code, request, cursor, bytes, out),
         _ => replay_wire::none(),
     }
 }
@@ -31,7 +31,7 @@ pub fn answer(request: &[u8], bytes: &mut [u8], scratch: &mut [u8], out: &mut [u
     let code = word.value;
     match code {
         0x1 | 0x2 | 0x10..=0x13 => replay_headers::answer(code, request, cursor, bytes, out),
-        0x20..=0x2C => answer_reader(code, request, cursor, bytes, scratch, out),
+        0x20..=0x2D => answer_reader(code, request, cursor, bytes, scratch, out),
         0x50..=0x55 | 0x76 | 0x77 => replay_floats::answer(code, request, cursor, bytes, out),
         0x30..=0x3D | 0x3F | 0x40..=0x49 => replay_casts::answer(code, request, cursor, out),
         0x3E | 0x60..=0x6D | 0x70..=0x75 => {

@@ -1,9 +1,10 @@
 // The requests about a whole file and about the step over one atom, answered from the proved functions: the run, the
-// tally and the step, 29, 2a and 2c of oracle/FORMAT.md. Test machinery: proved is that every request is taken and
-// every answer ends.
+// tally, the step and the check for shortest form, 29, 2a, 2c and 2d of oracle/FORMAT.md. Test machinery: proved is
+// that every request is taken and every answer ends.
 use replay_wire::Cursor;
 use replay_wire::Reply;
 use types::Budget;
+use types::Checked;
 use types::Place;
 use types::Places;
 use types::Ran;
@@ -117,12 +118,32 @@ fn step(text: &[u8], cursor: Cursor, bytes: &mut [u8], out: &mut [u8]) -> Reply 
     put_step(out, reply, skipped)
 }
 
+fn put_check(out: &mut [u8], reply: Reply, checked: Checked) -> Reply {
+    match checked {
+        Checked::Accepted => {
+            return replay_wire::put_word(out, reply, 0);
+        }
+        Checked::Refused(refusal, start) => {
+            return replay_wire::refused_at(out, reply, start, refusal);
+        }
+    }
+}
+
+fn check(text: &[u8], cursor: Cursor, bytes: &mut [u8], out: &mut [u8]) -> Reply {
+    let decoded = replay_wire::read_bytes(text, cursor, bytes);
+    let reply = replay_wire::begin(text, decoded.cursor);
+    let count = decoded.count;
+    let checked = shortest::check(&bytes[0..count]);
+    put_check(out, reply, checked)
+}
+
 // Answers a request of this crate's codes, whose code was read. `bytes` holds its source.
 pub fn answer(code: u64, text: &[u8], cursor: Cursor, bytes: &mut [u8], out: &mut [u8]) -> Reply {
     match code {
         0x29 => run(text, cursor, bytes, out),
         0x2A => tally(text, cursor, bytes, out),
         0x2C => step(text, cursor, bytes, out),
+        0x2D => check(text, cursor, bytes, out),
         _ => replay_wire::none(),
     }
 }

@@ -45,7 +45,7 @@ fn copy_into(buffer: &mut [u8], line: &[u8], request: &[u8], bytes: &mut [u8], o
 // Whether a code asks a reader.
 fn is_reader(code: u64) -> bool {
     match code {
-        0x20..=0x2C => true,
+        0x20..=0x2D => true,
         _ => false,
     }
 }

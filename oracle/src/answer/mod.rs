@@ -1,6 +1,7 @@
 //! Answers requests from the Rust under test.
 
 mod casts;
+mod check;
 mod numbers;
 mod readers;
 mod sequence;
@@ -11,6 +12,7 @@ mod writers;
 use crate::format::{in_memory_int_size, update_budget, Kind, Special};
 use crate::wire::{After, Answer, Answers, Refusal, Request, Value};
 use crate::Error;
+pub(crate) use writers::write;
 
 /// How far a string under exact reading may run past its source before the request is skipped. The original reserves
 /// the whole length first, so much more would cost time, and past some length it aborts.
@@ -38,6 +40,7 @@ impl Answers for Oracle {
             0x29..=0x2a => self.answer_whole(request),
             0x2b => self.answer_sequence(request),
             0x2c => self.answer_step(request),
+            0x2d => self.answer_check(request),
             0x12 | 0x13 | 0x3e | 0x54 | 0x60..=0x7f => self.answer_writer(request),
             0x30..=0x55 => casts::answer_cast(request),
             _ => answer_code(request),

@@ -28,7 +28,8 @@ fn outside_width(request: &Request<'_>) -> bool {
     matches!(*request, Request::WriteInteger(writer, bits) if !writer.holds(bits))
 }
 
-fn write(written: &mut Vec<u8>, request: &Request<'_>) -> io::Result<usize> {
+/// Appends what the writer that the request names writes.
+pub fn write(written: &mut Vec<u8>, request: &Request<'_>) -> io::Result<usize> {
     match *request {
         Request::WriteAtomHeader(code, arg) => write_atom_header(written, kind(code), arg),
         Request::WriteHeader(version) => write_header(written, version),

@@ -86,7 +86,7 @@ fn likely_arg(random: &mut Random, kind: u8) -> u64 {
 }
 
 /// The length of a string: short, or now and then around a multiple of 192, at which letters are counted in parts.
-fn string_length(random: &mut Random) -> u64 {
+pub fn string_length(random: &mut Random) -> u64 {
     if random.once_in(24) {
         PART * (1 + random.below(3)) - 3 + random.below(6)
     } else {
@@ -95,7 +95,7 @@ fn string_length(random: &mut Random) -> u64 {
 }
 
 /// Appends a body as long as the header says, or some bytes if that is long.
-fn put_body(random: &mut Random, bytes: &mut Vec<u8>, kind: u8, arg: u64) {
+pub fn put_body(random: &mut Random, bytes: &mut Vec<u8>, kind: u8, arg: u64) {
     match kind {
         1..=3 => put_number(random, bytes, kind, arg.wrapping_add(1)),
         7 => put_string(random, bytes, arg),

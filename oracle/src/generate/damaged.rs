@@ -2,9 +2,9 @@
 
 use std::io::{self, Write};
 
-use super::atoms;
 use super::random::Random;
 use super::sink::Sink;
+use super::{atoms, forms};
 use crate::wire::{HeldRead, HeldReads, Reading, Request, Way};
 
 /// A file of atoms that a reader takes, where they start, and what they cost.
@@ -18,7 +18,11 @@ fn good(random: &mut Random) -> File {
     let mut file = File { bytes: Vec::new(), starts: Vec::new(), charge: 0 };
     for _ in 0..1 + random.below(6) {
         file.starts.push(file.bytes.len() as u64);
-        file.charge += atoms::put_good(random, &mut file.bytes);
+        file.charge += if random.once_in(2) {
+            atoms::put_good(random, &mut file.bytes)
+        } else {
+            forms::put_shortest(random, &mut file.bytes)
+        };
     }
     file
 }
@@ -44,8 +48,8 @@ pub fn file(random: &mut Random, sink: &mut Sink<impl Write>) -> io::Result<()> 
     Ok(())
 }
 
-/// A run, a tally, as many atoms as the file had from one reader, and at one of the places where atoms started an atom
-/// and a step.
+/// A run, a tally, a check, as many atoms as the file had from one reader, and at one of the places where atoms started
+/// an atom and a step.
 fn ask(random: &mut Random, sink: &mut Sink<impl Write>, file: &File, source: &[u8]) -> io::Result<()> {
     let budget = match random.below(4) {
         0 => file.charge.saturating_sub(1),
@@ -54,6 +58,7 @@ fn ask(random: &mut Random, sink: &mut Sink<impl Write>, file: &File, source: &[
     };
     sink.put(&Request::Run(budget, source))?;
     sink.put(&Request::Tally(source))?;
+    sink.put(&Request::Check(source))?;
     sink.put(&Request::Sequence(budget, source, HeldReads::new(file.starts.iter().map(|_| HeldRead::Atom))))?;
     let reading = Reading { way: *random.pick(&Way::ALL), place: *random.pick(&file.starts), source };
     sink.put(&Request::ReadAtom(budget, reading))?;

@@ -4,7 +4,7 @@ use std::io::{self, Write};
 
 use super::random::Random;
 use super::sink::Sink;
-use super::{atoms, edges};
+use super::{atoms, edges, forms};
 use crate::wire::{code, HeldRead, HeldReads, Reading, Request, Variant, Way, Writer};
 
 /// A source of requests, with a buffer for their bytes.
@@ -25,6 +25,7 @@ impl Drawer {
             0x10..=0x11 | 0x20..=0x26 | code::STEP => self.reader(code),
             0x27..=0x2a => self.whole(code),
             code::SEQUENCE => self.sequence(),
+            code::CHECK => self.check(),
             0x30..=0x4f => self.integer(code),
             0x50..=0x5f => self.float(code),
             _ => self.writer(code),
@@ -100,6 +101,32 @@ impl Drawer {
         }));
         resize(random, &mut self.bytes, last);
         Request::Sequence(budget(random, total), &self.bytes, reads)
+    }
+
+    /// Atoms in shortest form, now and then one that is longer, unknown or any other, the last of them often cut, or
+    /// more behind them; or bytes at random.
+    fn check(&mut self) -> Request<'_> {
+        let random = &mut self.random;
+        if random.once_in(16) {
+            let count = random.index(14);
+            random.fill(&mut self.bytes, count);
+            return Request::Check(&self.bytes);
+        }
+        let mut last = 0;
+        for _ in 0..random.below(8) {
+            let start = self.bytes.len();
+            match random.below(32) {
+                0..=2 => forms::put_longer(random, &mut self.bytes),
+                3 | 4 => forms::put_unknown(random, &mut self.bytes),
+                5 => atoms::put_any(random, &mut self.bytes),
+                _ => forms::put_shortest(random, &mut self.bytes),
+            };
+            last = self.bytes.len() - start;
+        }
+        if random.once_in(2) {
+            resize(random, &mut self.bytes, last);
+        }
+        Request::Check(&self.bytes)
     }
 
     fn integer(&mut self, code: u8) -> Request<'_> {

@@ -6,6 +6,7 @@ mod damaged;
 mod draw;
 mod edges;
 mod exhaustive;
+mod forms;
 mod random;
 mod sink;
 
@@ -59,7 +60,7 @@ const fn weight(code: u8) -> usize {
         code::READ_ATOM => 40,
         code::READ_ATOM_HEADER | code::INTEGER_READ_FROM | code::FLOAT_READ_FROM => 12,
         code::WRITE_F32 | code::WRITE_F64 | code::BUFFERED_READ_BYTES => 8,
-        0x50..=0x55 | code::RUN..=code::STEP | code::WRITE_ATOM_HEADER => 4,
+        0x50..=0x55 | code::RUN..=code::CHECK | code::WRITE_ATOM_HEADER => 4,
         code::KIND_FROM_U8 | code::WRITE_HEADER | code::WRITE_SPECIAL..=code::WRITE_BOOL => 1,
         _ => 2,
     }

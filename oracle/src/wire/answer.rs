@@ -3,7 +3,7 @@
 use super::number::{Float, Integer};
 use super::words::{put_bytes, put_wide, put_word};
 
-/// A refusal by its name in document 01, with its data.
+/// A refusal by its name in document 01 or 02, with its data.
 #[derive(Debug, Clone, Copy, PartialEq, Eq)]
 pub enum Refusal {
     IncompatibleVersion,
@@ -16,10 +16,11 @@ pub enum Refusal {
     ImpreciseCastWouldLoseData,
     NoRoom,
     TooLong,
+    NotShortest,
 }
 
 impl Refusal {
-    /// The number that document 01 gives it.
+    /// The number that its document gives it.
     #[must_use]
     pub const fn number(self) -> u64 {
         match self {
@@ -33,6 +34,7 @@ impl Refusal {
             Self::ImpreciseCastWouldLoseData => 8,
             Self::NoRoom => 9,
             Self::TooLong => 10,
+            Self::NotShortest => 11,
         }
     }
 

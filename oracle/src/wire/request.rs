@@ -75,6 +75,7 @@ pub enum Request<'a> {
     Sequence(u64, &'a [u8], HeldReads),
     /// A budget, a place and a source: the atom there is read exactly, and its value forgotten.
     Step(u64, u64, &'a [u8]),
+    Check(&'a [u8]),
     IntegerAs(Variant, Integer),
     IntegerAsF32(Integer),
     IntegerAsF64(Integer),
@@ -147,6 +148,7 @@ impl<'a> Request<'a> {
             code::TALLY => Self::Tally(words.bytes(buffer)?),
             code::SEQUENCE => Self::Sequence(words.word()?, words.bytes(buffer)?, HeldReads::parse(words)?),
             code::STEP => Self::Step(words.word()?, words.word()?, words.bytes(buffer)?),
+            code::CHECK => Self::Check(words.bytes(buffer)?),
             _ => return Err(UNKNOWN_CODE),
         })
     }
@@ -221,6 +223,7 @@ impl<'a> Request<'a> {
             Self::Tally(..) => code::TALLY,
             Self::Sequence(..) => code::SEQUENCE,
             Self::Step(..) => code::STEP,
+            Self::Check(..) => code::CHECK,
             Self::IntegerAs(variant, _) => code::INTEGER_AS + *variant as u8,
             Self::IntegerAsF32(..) => code::INTEGER_AS_F32,
             Self::IntegerAsF64(..) => code::INTEGER_AS_F64,
@@ -292,7 +295,7 @@ impl<'a> Request<'a> {
                 put_word(line, place);
                 put_bytes(line, source);
             }
-            Self::Tally(bytes) | Self::WriteBytes(bytes) => put_bytes(line, bytes),
+            Self::Tally(bytes) | Self::Check(bytes) | Self::WriteBytes(bytes) => put_bytes(line, bytes),
             Self::IntegerAs(_, integer)
             | Self::IntegerAsF32(integer)
             | Self::IntegerAsF64(integer)
