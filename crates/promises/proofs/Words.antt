@@ -13,6 +13,8 @@ use Rattle.words.proofs.say_atom as say-atom
 use Rattle.words.proofs.say_atom.Reads as say-atom-reads
 use Rattle.words.proofs.say_cast as say-cast
 use Rattle.words.proofs.say_cast.Reads as say-cast-reads
+use Rattle.words.proofs.say_checked as say-checked
+use Rattle.words.proofs.say_checked.Reads as say-checked-reads
 use Rattle.words.proofs.say_integer as say-integer
 use Rattle.words.proofs.say_integer.Reads as say-integer-reads
 use Rattle.words.proofs.say_narrowed as say-narrowed
@@ -52,6 +54,9 @@ say-ran-one κs a r₁ r₂ s₁ s₂ p q = (p .0 ∙ sym (q .0), p .1 ∙ sym (
 
 pub say-tally-one : One say-tally.ended say-tally-reads.Post (λ κs s. now (s .0))
 say-tally-one κs a r₁ r₂ s₁ s₂ p q = (p .0 ∙ sym (q .0), p .1 ∙ sym (q .1))
+
+pub say-checked-one : One say-checked.ended say-checked-reads.Post (λ κs s. now (s .0))
+say-checked-one κs a r₁ r₂ s₁ s₂ p q = (p .0 ∙ sym (q .0), p .1 ∙ sym (q .1))
 
 pub say-version-one : One say-version.ended say-version-reads.Post (λ κs s. now (s .0))
 say-version-one κs a r₁ r₂ s₁ s₂ p q = (p .0 ∙ sym (q .0), p .1 ∙ sym (q .1))

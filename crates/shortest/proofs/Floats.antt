@@ -90,16 +90,16 @@ abbrev pub isLost : Narrowed → Bool
 isLost (kept q) = false
 isLost lost = true
 
-lost-cond : (t : Bool) (q : ℕ) → isLost (cond t (kept q) lost) ≡ not t
-lost-cond true q = refl
-lost-cond false q = refl
-
 module _ (count b : ℕ) (from to : Layout) (h : b < 2 * signWeight from) (not-two : eqb count 2 ≡ false)
     (by-has : (m : ℕ) → has from m ≡ true → eqb count (shortestF m) ≡ not (has to m))
   where
     fewest-of : (x : Meaning) → meaning from b ≡ x → fewest count (floatMeant count b x) ≡ isLost (narrowedMeaning to x)
     fewest-of (finite s m) e =
         by-has m (finite-has from b s m h e) ∙ sym (lost-cond (has to m) (withSign to s (candidate to m)))
+      where
+        lost-cond : (t : Bool) (q : ℕ) → isLost (cond t (kept q) lost) ≡ not t
+        lost-cond true q = refl
+        lost-cond false q = refl
     fewest-of (infinite s) e = not-two
     fewest-of (nan s t) e = refl
 
