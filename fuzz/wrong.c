@@ -1,4 +1,5 @@
-/* Exports that break what a lender is promised, or say wrong places or letters; each is tried alone by self-check. */
+/* Exports that break what a lender is promised, say wrong places or letters, or accept what is not in shortest form; each is
+ * tried alone by self-check. */
 #include "dimewagon.h"
 
 #ifdef WRONG_write_none
@@ -63,5 +64,17 @@ uint64_t pot_tally(const uint8_t *source, size_t source_len, uint64_t *words, si
     uint64_t number = right_tally(source, source_len, words, words_len);
     if (number == 0 && words_len >= POT_WORDS && words[3] > 0 && source[source_len - 1] == 0xCC) words[3]--;
     return number;
+}
+#endif
+
+#ifdef WRONG_check
+uint64_t right_check(const uint8_t *source, size_t source_len, uint64_t *words, size_t words_len);
+
+/* Accepts what is not in shortest form by a header of two bytes or more. */
+uint64_t pot_check(const uint8_t *source, size_t source_len, uint64_t *words, size_t words_len) {
+    uint64_t number = right_check(source, source_len, words, words_len);
+    if (number != POT_NOT_SHORTEST || !(source[words[0]] & 0x10)) return number;
+    words[0] = 0;
+    return 0;
 }
 #endif

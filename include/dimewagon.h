@@ -53,7 +53,8 @@ enum {
     POT_IMPRECISE_CAST_WOULD_LOSE_DATA = 8, /* a cast that would lose data, or a value that its writer or variant does not
                                              * hold */
     POT_NO_ROOM = 9,                        /* no room in `out`, in `scratch`, or for the twelve words */
-    POT_TOO_LONG = 10                       /* a tally's input of more than 16,777,216 bytes */
+    POT_TOO_LONG = 10,                      /* a tally's input of more than 16,777,216 bytes */
+    POT_NOT_SHORTEST = 11                   /* an atom that is whole and known, in more bytes than it needs */
 };
 
 /* The kinds of an atom. */
@@ -113,6 +114,13 @@ uint64_t pot_run(const uint8_t *source, size_t source_len, uint64_t budget, uint
  * byte outside 0x80 to 0xBF; but within a string the pair 0xCC with 0x80 to 0xBF, or 0xCD with 0x80 to 0xAF, which is a
  * combining mark from U+0300 to U+036F, counts as none. */
 uint64_t pot_tally(const uint8_t *source, size_t source_len, uint64_t *words, size_t words_len);
+
+/* Checks that all atoms of a source, which has no signature and any length, are whole, known and in shortest form: a
+ * header of the fewest bytes, a number of the smallest count that holds it, a float of the smallest width that has its
+ * value. A NaN may have any width. Sources that are accepted and mean the same have the same bytes. Words: none; or
+ * where the first refused atom starts, and the data. An atom is refused by 3, 4 or 6 as it is by exact reading, and by
+ * 11 only if by none of these. */
+uint64_t pot_check(const uint8_t *source, size_t source_len, uint64_t *words, size_t words_len);
 
 /* Writers. Each writes to the first bytes of `out`, in the fewest, or nothing. Words: how many bytes, or the data. */
 uint64_t pot_write_header(uint8_t *out, size_t out_len, uint8_t version, uint64_t *words, size_t words_len);

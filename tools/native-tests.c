@@ -141,6 +141,31 @@ static void letters(void)
     EXPECT_AT(2, 3, 3, LETTERS("\xE1\xCC\x80"), 0, 2, 1, 1, 1);
 }
 
+#define CHECKED(text) pot_check((const uint8_t *)text, sizeof text - 1, words, POT_WORDS)
+
+/* What is in shortest form, what is longer by its header, its count or its width, and the refusals that come before 11. */
+static void shortest(void)
+{
+    EXPECT(CHECKED(""), 0, 0);
+    EXPECT(CHECKED("\x41\x2C\x01\x42\x70\x11\x01\x61\x00\x3E\xE2" "ab"), 0, 0);
+    EXPECT(pot_check(zeros, sizeof zeros, words, POT_WORDS), 0, 0);
+    EXPECT(pot_check(source, 8, words, POT_WORDS), POT_NOT_SHORTEST, 1);
+    EXPECT(CHECKED("\x40\x05\x41\x05\x00"), POT_NOT_SHORTEST, 2);
+
+    /* 200 as an Int and as a UInt; -0, and a NaN, of two bytes and of four. */
+    EXPECT(CHECKED("\x21\xC8\x00\x40\xC8"), 0, 0);
+    EXPECT(CHECKED("\x41\xC8\x00"), POT_NOT_SHORTEST, 0);
+    EXPECT(CHECKED("\x61\x00\x80"), 0, 0);
+    EXPECT(CHECKED("\x63\x00\x00\x00\x80"), POT_NOT_SHORTEST, 0);
+    EXPECT(CHECKED("\x61\x00\x7E\x63\x00\x00\xC0\x7F"), 0, 0);
+    EXPECT(CHECKED("\x71\x00\x00\x7E"), POT_NOT_SHORTEST, 0);
+
+    /* Each with a header that is too long. */
+    EXPECT(CHECKED("\x00\x17\x00"), POT_UNKNOWN_SPECIAL, 1, 7);
+    EXPECT(CHECKED("\x00\x50\x00"), POT_EOF, 1);
+    EXPECT(CHECKED("\x00\x54\x00"), POT_UNSUPPORTED_BYTE_COUNT, 1, POT_UINT, 5);
+}
+
 static void refusals(void)
 {
     uint8_t out[4] = {9, 9, 9, 9};
@@ -189,6 +214,7 @@ static void too_few_words(size_t few)
     REFUSES(pot_skip_atom(source, 8, 5, 9, words, few));
     REFUSES(pot_run(source, 8, 9, words, few));
     REFUSES(pot_tally(source, 8, words, few));
+    REFUSES(pot_check(source, 8, words, few));
     REFUSES(pot_write_header(out, sizeof out, 1, words, few));
     REFUSES(pot_write_atom_header(out, sizeof out, POT_MAP, 1, words, few));
     REFUSES(pot_write_special(out, sizeof out, POT_SPECIAL_UNIT, words, few));
@@ -230,6 +256,7 @@ int main(void)
     places_of_an_atom();
     places_of_the_last_atom();
     letters();
+    shortest();
     refusals();
     values();
     /* None, as many as there once were, and one less than there are. */

@@ -17,6 +17,7 @@ extern "C" {
     ) -> u64;
     fn loop_run(source: *const u8, source_len: usize, budget: u64, out: *mut u64, out_len: usize) -> u64;
     fn loop_tally(source: *const u8, source_len: usize, out: *mut u64, out_len: usize) -> u64;
+    fn loop_check(source: *const u8, source_len: usize, out: *mut u64, out_len: usize) -> u64;
     fn loop_write(writer: u64, values: *const u64, values_len: usize, out: *mut u8, out_len: usize) -> usize;
     fn loop_write_header(values: *const u64, values_len: usize, out: *mut u8, out_len: usize) -> usize;
     fn loop_write_bytes(
@@ -73,6 +74,14 @@ pub fn tally(source: &[u8]) -> Result<Tally, u64> {
     let [atoms, body, charge, letters, first, body_start, after] = out;
     let last = Places { first, body: body_start, after };
     if refusal == 0 { Ok(Tally { atoms, body, charge, letters, last }) } else { Err(refusal) }
+}
+
+/// The check for shortest form; the error is where the refused atom starts.
+pub fn check(source: &[u8]) -> Result<(), u64> {
+    let mut out = [0; 4];
+    // SAFETY: as above.
+    let refusal = unsafe { loop_check(source.as_ptr(), source.len(), out.as_mut_ptr(), out.len()) };
+    if refusal == 0 { Ok(()) } else { Err(out[0]) }
 }
 
 /// The writers; those before the signature by the number that `loop_write` takes.

@@ -32,6 +32,22 @@ fn file(race: &mut Race, name: &str, source: &[u8]) {
     race.row(name, "tally", atoms, tally, || proved::tally(source).ok());
     let tally = || original::tally_filled(source, &mut theirs.borrow_mut()).ok();
     race.row(name, "tally, Rust filled", atoms, tally, || proved::tally(source).ok());
+    refuse_longer(name, source);
+    let check = || original::check(source, &mut theirs.borrow_mut());
+    race.row(name, "check", atoms, check, || proved::check(source));
+    let check = || original::check_filled(source, &mut theirs.borrow_mut());
+    race.row(name, "check, Rust filled", atoms, check, || proved::check(source));
+}
+
+/// That both sides accept the file, and refuse it with 5 in two bytes behind it, at its place.
+fn refuse_longer(name: &str, source: &[u8]) {
+    let longer = [source, &[0x41, 0x05, 0x00]].concat();
+    let mut scratch = Vec::new();
+    for (bytes, expected) in [(source, Ok(())), (&longer, Err(source.len() as u64))] {
+        let answers =
+            [original::check(bytes, &mut scratch), original::check_filled(bytes, &mut scratch), proved::check(bytes)];
+        assert_eq!(answers, [expected; 3], "{name}: a check of {} bytes", bytes.len());
+    }
 }
 
 /// A file atom by atom, a call for each, the original behind the same boundary as the library's exports.

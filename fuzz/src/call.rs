@@ -13,6 +13,7 @@ pub enum Call<'a> {
     Walk(u64, Way, &'a [u8]),
     Run(u64, &'a [u8]),
     Tally(&'a [u8]),
+    Check(&'a [u8]),
     WriteHeader(u8),
     WriteAtomHeader(u8, u64),
     WriteSpecial(u64),
@@ -56,7 +57,8 @@ impl Call<'_> {
     pub const fn source(&self) -> &[u8] {
         match self {
             Self::ReadHeader(reading) | Self::ReadAtom(_, reading) | Self::SkipAtom(_, reading) => reading.source,
-            Self::Walk(_, _, source) | Self::Run(_, source) | Self::Tally(source) | Self::WriteBytes(source) => source,
+            Self::Walk(_, _, source) | Self::Run(_, source) => source,
+            Self::Tally(source) | Self::Check(source) | Self::WriteBytes(source) => source,
             _ => &[],
         }
     }

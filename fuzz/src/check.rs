@@ -24,7 +24,7 @@ impl Checker {
         Self { judge: Judge::new(), source: Lent::new(), bytes: Lent::new(), words: Lent::new() }
     }
 
-    /// Compares one call, and what it wrote is read back by every way.
+    /// Compares one call, and what it wrote is read back by every way and checked.
     pub fn check(&mut self, call: &Call<'_>, room: Room) {
         if let Call::Walk(budget, way, source) = *call {
             return self.walk(budget, way, source, room);
@@ -33,7 +33,18 @@ impl Checker {
         let copied = matches!(call, Call::ReadAtom(..));
         if !copied && !said.bytes.is_empty() {
             self.read_back(call, &said.bytes);
+            self.check_back(call, &said.bytes);
         }
+    }
+
+    /// What the writers of values write is in shortest form. A header alone need not be an atom.
+    fn check_back(&mut self, call: &Call<'_>, written: &[u8]) {
+        if matches!(call, Call::WriteHeader(_)) {
+            return;
+        }
+        let said = self.compare(&Call::Check(written), Room { words: POT_WORDS, bytes: 0 });
+        let accepted = said.is_some_and(|said| said.number == 0);
+        assert!(accepted || matches!(call, Call::WriteAtomHeader(..)), "written and not accepted: {call:?}");
     }
 
     fn read_back(&mut self, call: &Call<'_>, written: &[u8]) {

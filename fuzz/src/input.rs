@@ -10,7 +10,7 @@ use crate::ffi::POT_WORDS;
 
 const WIDE: u8 = 0xf0;
 /// How many calls there are: those of `Bytes::call`.
-const CALLS: u8 = 38;
+const CALLS: u8 = 39;
 const FIRST_WRITER: u8 = 13;
 /// The largest room for words, some more than an answer has, and for bytes.
 const MOST_WORDS: u128 = POT_WORDS as u128 + 4;
@@ -91,7 +91,8 @@ impl<'a> Bytes<'a> {
             34 => Call::F32AsF64(self.number() as u32),
             35 => Call::F64AsF32(self.word()),
             36 => Call::F32AsInteger(self.number() as u32),
-            _ => Call::F64AsInteger(self.word()),
+            37 => Call::F64AsInteger(self.word()),
+            _ => Call::Check(self.rest),
         }
     }
 }
@@ -125,7 +126,7 @@ pub fn encode(call: &Call<'_>, room: Room) -> Vec<u8> {
             put(&mut bytes, u128::from(budget));
             bytes.extend_from_slice(source);
         }
-        Call::Tally(source) | Call::WriteBytes(source) => bytes.extend_from_slice(source),
+        Call::Tally(source) | Call::Check(source) | Call::WriteBytes(source) => bytes.extend_from_slice(source),
         Call::WriteNone | Call::WriteUnit | Call::WriteNamed => {}
         Call::WriteHeader(byte) | Call::WriteBool(byte) => bytes.push(byte),
         Call::WriteAtomHeader(kind, arg) => {
@@ -174,6 +175,7 @@ const fn code(call: &Call<'_>) -> u8 {
         Call::F64AsF32(..) => 35,
         Call::F32AsInteger(..) => 36,
         Call::F64AsInteger(..) => 37,
+        Call::Check(..) => 38,
     }
 }
 

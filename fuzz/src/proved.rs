@@ -31,7 +31,8 @@ pub unsafe fn ask(call: &Call<'_>, lent: &Slices) -> u64 {
         | Call::SkipAtom(..)
         | Call::Walk(..)
         | Call::Run(..)
-        | Call::Tally(..) => read(call, lent),
+        | Call::Tally(..)
+        | Call::Check(..) => read(call, lent),
         Call::WriteInteger(writer, bits) => write_integer(*writer, *bits, lent),
         Call::Cast(..)
         | Call::AsF32(..)
@@ -63,6 +64,7 @@ unsafe fn read(call: &Call<'_>, lent: &Slices) -> u64 {
         Call::SkipAtom(budget, reading) => pot_skip_atom(source, size, reading.place as usize, budget, words, count),
         Call::Run(budget, _) => pot_run(source, size, budget, words, count),
         Call::Tally(_) => pot_tally(source, size, words, count),
+        Call::Check(_) => pot_check(source, size, words, count),
         _ => unreachable!("a walk is many reads, and the others are no reads"),
     }
 }

@@ -26,7 +26,7 @@ pub fn write_seeds(lines: impl BufRead, folder: &Path) -> io::Result<usize> {
     Ok(count)
 }
 
-/// The calls that ask what the request asks. The source of an atom is also skipped, walked, run and tallied.
+/// The calls that ask what the request asks. The source of an atom is also skipped, walked, run, tallied and checked.
 fn calls<'a>(request: &Request<'a>) -> Vec<Call<'a>> {
     match *request {
         Request::ReadHeader(reading) => vec![Call::ReadHeader(reading)],
@@ -34,7 +34,7 @@ fn calls<'a>(request: &Request<'a>) -> Vec<Call<'a>> {
         Request::WriteAtomHeader(kind, arg) => vec![Call::WriteAtomHeader(kind, arg)],
         Request::WriteHeader(version) => vec![Call::WriteHeader(version)],
         Request::Run(budget, source) => vec![Call::Run(budget, source)],
-        Request::Tally(source) => vec![Call::Tally(source)],
+        Request::Tally(source) => vec![Call::Tally(source), Call::Check(source)],
         Request::Step(budget, place, source) => {
             vec![Call::SkipAtom(budget, Reading { way: Way::ExactLent, place, source })]
         }
@@ -63,7 +63,12 @@ fn atom_calls(budget: u64, reading: Reading<'_>) -> Vec<Call<'_>> {
     let Reading { way, source, .. } = reading;
     match way {
         Way::Filled => vec![Call::ReadAtom(budget, reading), Call::Walk(budget, way, source)],
-        Way::ExactLent => vec![Call::ReadAtom(budget, reading), Call::SkipAtom(budget, reading), Call::Tally(source)],
+        Way::ExactLent => vec![
+            Call::ReadAtom(budget, reading),
+            Call::SkipAtom(budget, reading),
+            Call::Tally(source),
+            Call::Check(source),
+        ],
         Way::ExactCopied => {
             vec![Call::ReadAtom(budget, reading), Call::Run(budget, source), Call::Walk(budget, way, source)]
         }

@@ -33,6 +33,7 @@ readers! {
     pot_skip_atom(place: usize, budget: u64)
     pot_run(budget: u64)
     pot_tally()
+    pot_check()
 }
 
 pub(crate) fn pot_read_atom_copied(source: &[u8], place: usize, budget: u64, scratch: &mut [u8]) -> Answer {

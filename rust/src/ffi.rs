@@ -20,6 +20,7 @@ extern "C" {
     pub fn pot_skip_atom(source: *const u8, source_len: usize, place: usize, budget: u64, words: *mut u64, words_len: usize) -> u64;
     pub fn pot_run(source: *const u8, source_len: usize, budget: u64, words: *mut u64, words_len: usize) -> u64;
     pub fn pot_tally(source: *const u8, source_len: usize, words: *mut u64, words_len: usize) -> u64;
+    pub fn pot_check(source: *const u8, source_len: usize, words: *mut u64, words_len: usize) -> u64;
     pub fn pot_write_header(out: *mut u8, out_len: usize, version: u8, words: *mut u64, words_len: usize) -> u64;
     pub fn pot_write_atom_header(out: *mut u8, out_len: usize, kind: u8, arg: u64, words: *mut u64, words_len: usize) -> u64;
     pub fn pot_write_special(out: *mut u8, out_len: usize, special: u64, words: *mut u64, words_len: usize) -> u64;

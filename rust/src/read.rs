@@ -321,3 +321,35 @@ pub fn tally(source: &[u8]) -> Result<Tally, Refused> {
     }
     Ok(Tally { atoms: w[0], body: w[1], charge: w[2], letters: w[3], last })
 }
+
+/// Checks that all atoms of a source, which has no signature and any length, are whole, known and in shortest form: a
+/// header of the fewest bytes, a number of the smallest count that holds it, a float of the smallest width that has its
+/// value. A NaN may have any width. What the writers of values write is accepted, and sources that are accepted and mean
+/// the same have the same bytes.
+///
+/// The first bad atom is refused, by 3, 4 or 6 as it is by exact reading, and by [`Refusal::NotShortest`] only if by
+/// none of these.
+///
+/// ```
+/// use dimewagon::{check, read_header_exact, Refusal, Refused};
+///
+/// /// A file has a signature, which is read first.
+/// fn accept(file: &[u8]) -> Result<(), Refused> {
+///     let (_version, atoms) = read_header_exact(file)?;
+///     check(atoms)
+/// }
+///
+/// assert_eq!(accept(b"Pot\x01\x41\x2C\x01\x40\x05"), Ok(()));
+/// // 5 in two bytes, behind 300. The place counts from the first atom, as the signature is not among what is checked.
+/// let refused = accept(b"Pot\x01\x41\x2C\x01\x41\x05\x00").unwrap_err();
+/// assert_eq!((refused.refusal, refused.start), (Refusal::NotShortest, 3));
+/// assert_eq!(refused.to_string(), "refusal 11 at 3: not in shortest form");
+/// ```
+pub fn check(source: &[u8]) -> Result<(), Refused> {
+    let (number, w) = calls::pot_check(source);
+    if number != 0 {
+        let refusal = Refusal::of(number, w[1], w[2]);
+        return Err(Refused { refusal, start: w[0] as usize, last: Places::of(&w) });
+    }
+    Ok(())
+}

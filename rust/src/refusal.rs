@@ -34,6 +34,8 @@ pub enum Refusal {
     NoRoom,
     /// 10: the input of a tally has more than 16,777,216 bytes.
     TooLong,
+    /// 11: an atom, whole and known, that takes more bytes than it needs.
+    NotShortest,
 }
 
 impl Refusal {
@@ -50,6 +52,7 @@ impl Refusal {
             8 => Self::ImpreciseCastWouldLoseData,
             9 => Self::NoRoom,
             10 => Self::TooLong,
+            11 => Self::NotShortest,
             // The library is proved to answer no other.
             _ => unreachable!("no refusal has the number {number}"),
         }
@@ -74,6 +77,7 @@ impl Refusal {
             Self::ImpreciseCastWouldLoseData => 8,
             Self::NoRoom => 9,
             Self::TooLong => 10,
+            Self::NotShortest => 11,
         }
     }
 
@@ -89,6 +93,7 @@ impl Refusal {
             Self::ImpreciseCastWouldLoseData => f.write_str("the cast would lose data"),
             Self::NoRoom => f.write_str("no room"),
             Self::TooLong => f.write_str("the input is too long"),
+            Self::NotShortest => f.write_str("not in shortest form"),
         }
     }
 }
@@ -119,6 +124,7 @@ pub struct Refused {
     /// there this is 0 and says nothing.
     pub start: usize,
     /// The places of the last atom that was read before it, by the same tally, run or iterator, zeros if there was none.
+    /// A check says none: zeros.
     pub last: Places,
 }
 

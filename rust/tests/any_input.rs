@@ -71,6 +71,21 @@ fn walk(source: &[u8], budget: u64) {
         }
         (tally, stopped) => assert_eq!(stopped.map(|at| at.refusal), Some(Refusal::TooManyBytesRead), "{tally:?}"),
     }
+    checked(source);
+}
+
+/// What the check accepts the tally reads to its end, and what it refuses but by 11 the tally refuses alike.
+fn checked(source: &[u8]) {
+    match (check(source), tally(source)) {
+        (Ok(()), by_tally) => assert!(by_tally.is_ok(), "{source:02X?}"),
+        (Err(refused), by_tally) if refused.refusal == Refusal::NotShortest => {
+            assert!(by_tally.map_or_else(|later| later.start > refused.start, |_| true), "{source:02X?}");
+        }
+        (Err(refused), by_tally) => {
+            let by_tally = by_tally.unwrap_err();
+            assert_eq!((refused.refusal, refused.start), (by_tally.refusal, by_tally.start));
+        }
+    }
 }
 
 #[test]

@@ -80,6 +80,13 @@ fn file(source: &[u8]) -> String {
     }
 }
 
+fn checked(source: &[u8]) -> String {
+    match check(source) {
+        Ok(()) => "accepted".into(),
+        Err(stopped) => format!("{}; start {}", refused(stopped.refusal), stopped.start),
+    }
+}
+
 fn three(places: Places) -> String {
     format!("{}..{}..{}", places.first, places.body, places.after)
 }
@@ -135,6 +142,7 @@ fn every_example_of_the_page_is_so() {
             "filled" => one(read_atom(&bytes(left), 0, 99), 99),
             "signature" => signature(&bytes(left)),
             "file" => file(&bytes(left)),
+            "check" => checked(&bytes(left)),
             "cuts" => cuts(&bytes(left)),
             "places" => places(Atoms::new(&bytes(left))),
             "file places" => places(Atoms::of_file(&bytes(left)).unwrap().1),
@@ -147,6 +155,7 @@ fn every_example_of_the_page_is_so() {
         *ran.entry(block).or_insert(0) += 1;
     }
     let expected = [
+        ("check", 21),
         ("cuts", 1),
         ("exact", 32),
         ("exact, budget 3", 5),

@@ -72,6 +72,12 @@ fn whole_files() {
     let long = vec![0; 16_777_217];
     assert_eq!(tally(&long[1..]), (0, said(&[16_777_216], [16_777_215, 16_777_216, 16_777_216])));
     assert_eq!(tally(&long), (10, said(&[], NONE)));
+    let check = |bytes: &[u8]| asked(|w, n| unsafe { pot_check(bytes.as_ptr(), bytes.len(), w, n) });
+    assert_eq!(check(&body), (0, said(&[], NONE)));
+    assert_eq!(check(&long), (0, said(&[], NONE)));
+    assert_eq!(check(&[0x40, 0x05, 0x41, 0x05, 0x00]), (11, said(&[2], NONE)));
+    assert_eq!(check(&[0x40, 0x00, 0x24]), (6, said(&[2, 1, 5], NONE)));
+    assert_eq!(check(&[0x40, 0x00, 0x17, 0x00]), (3, said(&[2, 7], NONE)));
     let skip = asked(|w, n| unsafe { pot_skip_atom(body.as_ptr(), body.len(), 0, 9, w, n) });
     assert_eq!(skip, (0, said(&[4, 6, 1, 1], [0, 1, 4])));
 }
@@ -91,9 +97,10 @@ fn no_room_for_the_words() {
                 pot_read_atom_copied(given, source.len(), 0, 9, room, size, w, count),
                 pot_run(given, source.len(), 9, w, count),
                 pot_tally(given, source.len(), w, count),
+                pot_check(given, source.len(), w, count),
             ]
         };
-        assert_eq!((numbers, words, out), ([9; 6], [OLD; POT_WORDS], [9; 4]));
+        assert_eq!((numbers, words, out), ([9; 7], [OLD; POT_WORDS], [9; 4]));
     }
 }
 

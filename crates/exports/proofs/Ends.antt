@@ -31,6 +31,7 @@ use Rattle.types.specs.declared.HeaderAnswer.the-variants as H
 use Rattle.types.specs.declared.Ran.{Ran}
 use Rattle.types.specs.declared.Skipped.{Skipped}
 use Rattle.types.specs.declared.TallyAnswer.{TallyAnswer}
+use Rattle.types.specs.declared.Checked.{Checked}
 use Rattle.types.specs.declared.VersionAnswer.{VersionAnswer}
 use Rattle.types.specs.declared.Way.{Way}
 use Rattle.types.specs.declared.Way.the-variants as WY
@@ -46,7 +47,7 @@ use Rattle.atom.specs.Atoms.{atomRead, atomScratch, scratchCharged, scratchFrom
 use Rattle.float_cast.specs.Integral.{asInteger}
 use Rattle.header.specs.Signature.{versionRead}
 use Rattle.words.specs.Layout.{Said, wordCount, short, numberOf, wordsOf, unlessShort, saidWord, saidWritten, saidRefused}
-use Rattle.words.specs.Layout.{saidVersion}
+use Rattle.words.specs.Layout.{saidVersion, saidChecked}
 use Rattle.words.specs.Layout.{saidAtom, saidSkipped, saidRan, saidTally, saidCast, saidAsInteger, saidAsF32, saidAsF64}
 use Rattle.recast.specs.Recasts.{ofInteger}
 use Rattle.exports.specs.Named.{ofKind, ofSpecial}
@@ -216,6 +217,9 @@ ran-said a b e = ap saidRan e
 pub tally-said : (a b : TallyAnswer) → a ≡ b → saidTally a ≡ saidTally b
 tally-said a b e = ap saidTally e
 
+pub checked-said : (a b : Checked) → a ≡ b → saidChecked a ≡ saidChecked b
+checked-said a b e = ap saidChecked e
+
 pub version-said : (a b : VersionAnswer) → a ≡ b → saidVersion a ≡ saidVersion b
 version-said a b e = ap saidVersion e
 
@@ -262,7 +266,7 @@ module _ (X : Type 0) (refused : Refusal → X) (a : X) where
 -- again.
 pub ruleset few = (tt, zero≤, toZ-ofZ, sfits-of)
 
-pub ruleset alike = (word-said, atom-said, skipped-said, ran-said, tally-said, version-said, integer-said)
+pub ruleset alike = (word-said, atom-said, skipped-said, ran-said, tally-said, checked-said, version-said, integer-said)
 
 pub ruleset say-ends = (number-said, words-said, alike, atom-by, version-by, few)
 

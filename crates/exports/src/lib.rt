@@ -26,7 +26,8 @@ ghost use Rattle.float_cast.specs.Integral.{asInteger};
 ghost use Rattle.atom.specs.Atoms.{atomRead, atomScratch};
 ghost use Rattle.dictionary.specs.Steps.{skipped};
 ghost use Rattle.dictionary.specs.Runs.{runAll, tallyAll};
-ghost use Rattle.words.specs.Layout.{wordCount, numberOf, wordsOf, unlessShort, saidAtom, saidSkipped, saidRan, saidTally, saidVersion, saidWritten};
+ghost use Rattle.shortest.specs.Checks.{checkAll};
+ghost use Rattle.words.specs.Layout.{wordCount, numberOf, wordsOf, unlessShort, saidAtom, saidSkipped, saidRan, saidTally, saidChecked, saidVersion, saidWritten};
 ghost use Rattle.words.specs.Layout.{saidRefused, saidWord, saidCast, saidAsInteger, saidAsF32, saidAsF64, saidNarrowed};
 ghost use Rattle.recast.specs.Recasts.{recast, integerOfWords, ofInteger};
 ghost use Rattle.exports.specs.Named.{ofKind, ofSpecial};
@@ -172,6 +173,15 @@ pub extern "C" fn pot_tally(source: &[u8], words: &mut [u64]) -> u64
     ensures { λ r. ⌜ now (words .exit) ≡ wordsOf (saidTally (tallyAll (now (source .entry)))) (now (words .entry)) ⌝ }
 {
     words::say_tally(words, dictionary::tally(source))
+}
+
+// Checks that each atom of a whole file is whole, known and in shortest form.
+#[no_mangle]
+pub extern "C" fn pot_check(source: &[u8], words: &mut [u64]) -> u64
+    ensures { λ r. ⌜ r ≡ numberOf (saidChecked (checkAll (now (source .entry)))) (now (words .entry)) ⌝ }
+    ensures { λ r. ⌜ now (words .exit) ≡ wordsOf (saidChecked (checkAll (now (source .entry)))) (now (words .entry)) ⌝ }
+{
+    words::say_checked(words, shortest::check(source))
 }
 
 // Reads a signature under a way: the one place that calls the reader.

@@ -5,6 +5,7 @@ ghost use Prim.Native.Nat.{_≤_};
 use types::Atom;
 use types::AtomAnswer;
 use types::Budget;
+use types::Checked;
 use types::Float;
 use types::Integer;
 use types::Kind;
@@ -212,6 +213,21 @@ pub extern "C" fn loop_tally(source: &[u8], out: &mut [u64]) -> u64 {
         TallyAnswer::Refused(last, refusal) => {
             answer4(out, 0, 0, 0, 0);
             answer_last(out, last);
+            return refusal.number();
+        }
+    }
+}
+
+// Checks that a file is in shortest form. Answers a refusal's number or 0, and where the refused atom starts.
+#[no_mangle]
+pub extern "C" fn loop_check(source: &[u8], out: &mut [u64]) -> u64 {
+    match shortest::check(source) {
+        Checked::Accepted => {
+            answer4(out, 0, 0, 0, 0);
+            return 0;
+        }
+        Checked::Refused(refusal, start) => {
+            answer4(out, start.0 as u64, 0, 0, 0);
             return refusal.number();
         }
     }
