@@ -1,4 +1,6 @@
 -- One result for each contract of `exports`, and one content of each lent buffer.
+use Rattle.exports.proofs.pot_check as pot-check
+use Rattle.exports.proofs.pot_check.Reads as pot-check-reads
 use Rattle.exports.proofs.pot_f32_as_f64 as pot-f32-as-f64
 use Rattle.exports.proofs.pot_f32_as_f64.Reads as pot-f32-as-f64-reads
 use Rattle.exports.proofs.pot_f32_as_integer as pot-f32-as-integer
@@ -105,6 +107,9 @@ pot-run-one κs a r₁ r₂ s₁ s₂ p q = (p .0 ∙ sym (q .0), p .1 ∙ sym (
 
 pub pot-tally-one : One pot-tally.ended pot-tally-reads.Post (λ κs s. now (s .1 .0))
 pot-tally-one κs a r₁ r₂ s₁ s₂ p q = (p .0 ∙ sym (q .0), p .1 ∙ sym (q .1))
+
+pub pot-check-one : One pot-check.ended pot-check-reads.Post (λ κs s. now (s .1 .0))
+pot-check-one κs a r₁ r₂ s₁ s₂ p q = (p .0 ∙ sym (q .0), p .1 ∙ sym (q .1))
 
 pub pot-read-header-one : One pot-read-header.ended pot-read-header-reads.Post (λ κs s. now (s .1 .1 .0))
 pot-read-header-one κs a r₁ r₂ s₁ s₂ p q = (p .0 ∙ sym (q .0), p .1 ∙ sym (q .1))
