@@ -19,15 +19,18 @@ use Rattle.types.specs.declared.Skipped.{Skipped}
 use Rattle.types.specs.declared.Skipped.the-variants as SK
 use Rattle.types.specs.declared.Ran.{Ran}
 use Rattle.types.specs.declared.TallyAnswer.{TallyAnswer}
+use Rattle.types.specs.declared.Checked.{Checked}
+use Rattle.types.specs.declared.Checked.the-variants as C
 use Rattle.types.specs.declared.VersionAnswer.{VersionAnswer}
 use Rattle.types.specs.declared.VersionAnswer.the-variants as VA
 use Rattle.types.specs.declared.Written.{Written}
 use Rattle.types.specs.declared.Written.the-variants as W
 use Rattle.types.specs.declared.AsInteger.{AsInteger}
 use Rattle.types.specs.declared.AsInteger.the-variants as In
-use Rattle.words.specs.Layout.{Said, saidAtom, saidSkipped, saidRan, saidTally, saidVersion, saidWritten, saidAsInteger}
+use Rattle.words.specs.Layout.{Said, saidAtom, saidSkipped, saidRan, saidTally, saidChecked, saidVersion, saidWritten}
+use Rattle.words.specs.Layout.{saidAsInteger}
 use Rattle.promises.specs.Told.{toldAtom, toldSkipped, toldRan, toldTally, toldVersion, toldWritten}
-use Rattle.promises.specs.Told.{toldAsInteger}
+use Rattle.promises.specs.Told.{toldChecked, toldAsInteger}
 
 -- one number for an answer, told or laid out
 pub atom-number : (a : AtomAnswer) → saidAtom a .number ≡ toldAtom a .number
@@ -50,6 +53,11 @@ unfolding saidTally
 tally-number (TA.Done last t) = refl
 tally-number (TA.Stopped last r start) = refl
 tally-number (TA.Refused last r) = refl
+
+pub checked-number : (a : Checked) → saidChecked a .number ≡ toldChecked a .number
+unfolding saidChecked
+checked-number C.Accepted = refl
+checked-number (C.Refused r start) = refl
 
 pub version-number : (a : VersionAnswer) → saidVersion a .number ≡ toldVersion a .number
 unfolding saidVersion
@@ -117,3 +125,10 @@ pub tally-said :
     ≡ laid 0 (5 ∷ 10 ∷ 11 ∷ 2 ∷ 0 ∷ 0 ∷ 0 ∷ 0 ∷ 14 ∷ 15 ∷ 15 ∷ 0 ∷ [])
 unfolding saidTally
 tally-said = refl
+
+-- `40 00 24`: refusal 6(Int, 5) of the check, at its second atom
+pub check-said :
+    saidChecked (C.Refused (R.UnsupportedByteCount K.Int 5) (record { 0 = 2 }))
+    ≡ laid 6 (2 ∷ 1 ∷ 5 ∷ 0 ∷ 0 ∷ 0 ∷ 0 ∷ 0 ∷ 0 ∷ 0 ∷ 0 ∷ 0 ∷ [])
+unfolding saidChecked
+check-said = refl
