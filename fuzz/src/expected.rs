@@ -62,7 +62,7 @@ impl Judge {
             Call::SkipAtom(budget, reading) => Some(self.skipped(budget, reading)),
             Call::Run(budget, source) => self.given(&Request::Run(budget, source)),
             Call::Tally(source) => self.given(&Request::Tally(source)),
-            Call::Check(source) => Some(self.checked(source)),
+            Call::Check(source) => self.given(&Request::Check(source)),
             Call::WriteHeader(version) => self.given(&Request::WriteHeader(version)),
             Call::WriteAtomHeader(kind, arg) => {
                 self.named(&Request::KindFromU8(kind), &Request::WriteAtomHeader(kind, arg))
@@ -140,51 +140,6 @@ impl Judge {
         })
     }
 
-    /// The check of a source: the first atom that exact reading refuses, or that the writers write otherwise.
-    fn checked(&mut self, source: &[u8]) -> Said {
-        let mut start = 0;
-        while start < source.len() as u64 {
-            let reading = Reading { way: Way::ExactLent, place: start, source };
-            match self.rewritten(reading) {
-                Ok((end, bytes)) if bytes == source[start as usize..end as usize] => start = end,
-                Ok(_) => return Said::new(NOT_SHORTEST, &[start], &[]),
-                Err(refusal) => {
-                    let [first, second] = data(refusal);
-                    return Said::new(refusal.number(), &[start, first, second], &[]);
-                }
-            }
-        }
-        Said::new(0, &[], &[])
-    }
-
-    /// The place after an atom, and its bytes as the original's writer of its value writes them; of an atom without a
-    /// value, the writer of its header. The original reads a NaN of two bytes and has no writer for it: such a one is its
-    /// header in one byte, and then its own two.
-    fn rewritten(&mut self, reading: Reading<'_>) -> Result<(u64, Vec<u8>), Refusal> {
-        let (end, request) = match self.oracle.answer(&Request::ReadAtom(u64::MAX, reading)) {
-            Answer::Given(_, Err(refusal)) => return Err(refusal),
-            Answer::Skipped(_) => return Err(Refusal::Eof),
-            Answer::Given(_, Ok(Value::Atom(kind, arg, places, nucleus))) => {
-                let body = &reading.source[places.body as usize..places.after as usize];
-                let request = match nucleus {
-                    Nucleus::Integer(integer) => Request::IntegerWriteTo(integer),
-                    Nucleus::Float(Float::F32(bits)) if arg == 1 && f32::from_bits(bits).is_nan() => {
-                        return Ok((places.after, [&[HALF], body].concat()));
-                    }
-                    Nucleus::Float(float) => Request::FloatWriteTo(float),
-                    Nucleus::Bytes(_) => Request::WriteBytes(body),
-                    _ => Request::WriteAtomHeader(kind, arg),
-                };
-                (places.after, request)
-            }
-            _ => unreachable!("an atom is answered by an atom"),
-        };
-        match self.oracle.answer(&request) {
-            Answer::Given(_, Ok(Value::Bytes(bytes))) => Ok((end, bytes.to_vec())),
-            _ => unreachable!("a writer answers bytes"),
-        }
-    }
-
     /// An atom's header: place, kind and argument, or place.
     pub fn header(&mut self, reading: Reading<'_>) -> Said {
         self.given(&Request::ReadAtomHeader(reading)).expect("every header is in the domain")
@@ -193,9 +148,6 @@ impl Judge {
 
 /// What an atom of a float holds.
 const FLOAT: u64 = 3;
-/// The header of a float of two bytes.
-const HALF: u8 = 0x61;
-const NOT_SHORTEST: u64 = 11;
 
 fn variant(number: u64) -> Option<Variant> {
     Variant::ALL.get(usize::try_from(number).ok()?).copied()

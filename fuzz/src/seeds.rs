@@ -34,7 +34,8 @@ fn calls<'a>(request: &Request<'a>) -> Vec<Call<'a>> {
         Request::WriteAtomHeader(kind, arg) => vec![Call::WriteAtomHeader(kind, arg)],
         Request::WriteHeader(version) => vec![Call::WriteHeader(version)],
         Request::Run(budget, source) => vec![Call::Run(budget, source)],
-        Request::Tally(source) => vec![Call::Tally(source), Call::Check(source)],
+        Request::Tally(source) => vec![Call::Tally(source)],
+        Request::Check(source) => vec![Call::Check(source)],
         Request::Step(budget, place, source) => {
             vec![Call::SkipAtom(budget, Reading { way: Way::ExactLent, place, source })]
         }
