@@ -1,8 +1,8 @@
 -- The check's loop: what holds before each turn, what a turn keeps of it, and what the check answers at its ends. A turn
 -- of the loop is a turn of the definition, over the step's own walk, `dictionary.Turns`.
-use mathlib.Core.Path.{_≡_, refl, _∙_, sym, ap}
+use mathlib.Core.Path.{_≡_, refl, _∙_, sym, ap, subst}
 use mathlib.Core.Bool.{Bool, true, false, false≢true}
-use mathlib.Core.List.{List}
+use mathlib.Core.List.{List, _++_}
 use Prim.Native.Nat.{ℕ, suc, _+_, _-_, _≤_, _<_}
 use native.Mathlib.Omega.{arith}
 use borrow.Author.Needs.{needs}
@@ -26,11 +26,12 @@ use Rattle.dictionary.specs.Runs.{unlimited}
 use Rattle.dictionary.proofs.Bodies.{passed}
 use Rattle.dictionary.proofs.Fronts.{front}
 use Rattle.dictionary.proofs.Steps.{Past, forward, step-cut, step-body}
+use Rattle.dictionary.proofs.Wholes.{price-word, atom-past}
 use Rattle.dictionary.proofs.Price.{first-whole}
 use Rattle.dictionary.proofs.Turns.{Walked, walk-begins, walk-on, walk-answers}
 use Rattle.shortest.specs.Forms.{shortest}
 use Rattle.shortest.specs.Checks.{between, checkFrom, checkAll}
-use Rattle.shortest.specs.Steps.{atomAt, Stands}
+use Rattle.shortest.specs.Steps.{atomAt, Stands, Fine}
 
 -- ---- what the step goes past stands there
 
@@ -116,12 +117,40 @@ pub record Checking (s : List ℕ) (at : ℕ) : Type 0 where
 pub check-begins : (s : List ℕ) → Checking s 0
 check-begins s = record { atoms = 0; walked = walk-begins checking s tt }
 
+-- an accepted atom that stands at a place
+accepted-on : (s : List ℕ) (at : ℕ) → at < length s → (end : ℕ) → Fine s at end → Checking s at → Checking s end
+accepted-on s at h end f i =
+    let n : ℕ = end - at in
+    let a = f .rises in
+    let b = f .inside in
+    let here : drop at s ≡ between s at end ++ drop n (drop at s) = sym (take-append-drop n (drop at s)) in
+    let size : length (between s at end) ≡ n = length-take-le n (drop at s) (omega (arith, length-drop at s)) in
+    let to : at + length (between s at end) ≡ end = omega arith in
+    let went = atom-past s at (omega arith) (between s at end) (drop n (drop at s)) here (f .whole)
+    (record { 0 = unlimited }) (price-word (between s at end)) in
+    subst (Checking s) to
+    (record {
+      atoms = i .atoms + 1;
+      walked =
+          walk-on checking s _ (i .atoms) at _ (i .walked) _ _ _ _ _ went tt
+          (λ fuel later k. check-on s fuel later at k _ _ _ _ h went
+          (ap (λ (x : ℕ). shortest (between s at x)) to ∙ f .in-form));
+    })
+
 module _ (s : List ℕ) (at : Place) (i : Checking s (at .0)) where
   -- the end of the list
   pub accepts : length s ≤ at .0 → C.Accepted ≡ checkAll s
   accepts h =
       walk-answers checking s _ (i .atoms) (at .0) _ (i .walked) _
       (λ fuel later k. check-end s fuel later (at .0) k h)
+
+  -- an atom that was accepted by its first byte: the loop goes on behind it
+  module _ (h : at .0 < length s) (end : ℕ) (f : (end ≡ at .0 → ⊥) → Fine s (at .0) end) (other : end ≡ at .0 → ⊥) where
+    pub passes : Checking s end
+    passes = accepted-on s (at .0) h end (f other) i
+
+    pub falls-short : length s - end < length s - at .0
+    falls-short = let a = f other .rises in let b = f other .inside in omega arith
 
   module _ (h : at .0 < length s) (r : Skipped) (q : r ≡ skipped s (at .0) (record { 0 = unlimited })) where
     -- refused by the step
@@ -172,4 +201,4 @@ module _ (s : List ℕ) (at : Place) (i : Checking s (at .0)) where
           let c = f .inside in
           omega arith
 
-pub ruleset check-laws = (check-begins, stands, goes-on, falls, longer, refuses, accepts, needs)
+pub ruleset check-laws = (check-begins, passes, falls-short, stands, goes-on, falls, longer, refuses, accepts, needs)

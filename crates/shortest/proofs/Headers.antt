@@ -366,7 +366,7 @@ module _ (b : ℕ) (l : List ℕ) (B : Bytes (b ∷ l)) (long : b / 16 % 2 ≡ 1
 -- ---- by the last byte, of any bytes that a header is whole in
 
 -- a header of one byte
-one-byte : (b : ℕ) (l : List ℕ) → b < 256 → moreFollow b ≡ false → shortestHeader (b ∷ l) ≡ true
+pub one-byte : (b : ℕ) (l : List ℕ) → b < 256 → moreFollow b ≡ false → shortestHeader (b ∷ l) ≡ true
 unfolding shortestHeader
 one-byte b l small m =
     let z : b / 16 % 2 ≡ 0 = even-bit (b / 16 % 2) (omega arith) (not-one m) in

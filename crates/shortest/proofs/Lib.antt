@@ -3,6 +3,7 @@ pub mod Floats
 pub mod Headers
 pub mod Arms
 pub mod Standing
+pub mod Shorts
 pub mod Checking
 pub mod Forms
 pub mod Meanings

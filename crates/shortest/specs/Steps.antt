@@ -1,9 +1,12 @@
 -- What the steps of the check do: for the contracts of private functions alone. An atom that the step has passed, by its
 -- places, and what is judged of it.
-use Prim.Native.Nat.{ℕ, _+_, _≤_}
+use Prim.Native.Nat.{ℕ, _+_, _/_, _%_, _≤_, _<_}
 use mathlib.Core.Path.{_≡_}
+use mathlib.Core.Bool.{true}
 use mathlib.Core.List.{List}
+use lib.Dec.{eqb}
 use lib.ListN.{length}
+use Rattle.types.specs.Choice.{pick}
 use Rattle.types.specs.declared.Places.{Places}
 use Rattle.header.specs.Header.{headerLength}
 use Rattle.dictionary.specs.Wholes.{IsAtom}
@@ -11,6 +14,7 @@ use Rattle.little.specs.Le.{numberAt}
 use Rattle.binary.specs.Formats.{meaning}
 use Rattle.float.specs.Floats.{layoutAt}
 use Rattle.shortest.specs.Meanings.{Meant, floatMeant}
+use Rattle.shortest.specs.Forms.{shortest}
 use Rattle.shortest.specs.Checks.{between}
 
 -- its bytes
@@ -28,3 +32,15 @@ pub record Stands (s : List ℕ) (places : Places) : Type 0 where
 abbrev pub floatAt : ℕ → List ℕ → ℕ → Meant
 floatAt count s at =
     floatMeant count (numberAt count s at) (meaning (layoutAt count) (numberAt count s at))
+
+-- the body bytes of an atom whose header is this byte alone, and which takes the fewest bytes whatever they hold: a UInt
+-- of one byte, a string, a sequence; 16 of any other
+abbrev pub shortBody : ℕ → ℕ
+shortBody b = pick (eqb b 0x40) 1 (pick (eqb (b / 16) 14) (b % 16) (pick (eqb (b / 16) 8) 0 16))
+
+-- an atom that is accepted, from one place to another
+pub record Fine (s : List ℕ) (at after : ℕ) : Type 0 where
+  pub whole : IsAtom (between s at after)
+  pub in-form : shortest (between s at after) ≡ true
+  pub rises : at < after
+  pub inside : after ≤ length s

@@ -2,7 +2,7 @@
 // means. Document 02, K3.
 ghost use mathlib.Core.Path.{_≡_};
 ghost use mathlib.Core.Bool.{true, not, _&&_};
-ghost use Prim.Native.Nat.{_+_, _*_, _^_, _≤_};
+ghost use Prim.Native.Nat.{_+_, _*_, _^_, _≤_, _<_};
 ghost use lib.Dec.{eqb, leb};
 ghost use lib.ListN.{length};
 ghost use Rattle.types.specs.Forms.{allowedCount, allowedFloat};
@@ -13,7 +13,7 @@ ghost use Rattle.binary.specs.Formats.{single, double, meaning};
 ghost use Rattle.shortest.specs.Meanings.{floatMeant};
 ghost use Rattle.shortest.specs.Forms.{shortestHeader, fewest, shortest};
 ghost use Rattle.shortest.specs.Checks.{checkAll};
-ghost use Rattle.shortest.specs.Steps.{atomAt, Stands, floatAt};
+ghost use Rattle.shortest.specs.Steps.{atomAt, Stands, floatAt, shortBody, Fine};
 use binary::Narrowed16;
 use binary::Narrowed32;
 use types::Budget;
@@ -158,6 +158,38 @@ fn shortest_atom(source: &[u8], places: Places) -> bool
     return shortest_header(source, places);
 }
 
+// The body bytes of an atom whose header is this byte alone, as nearly all of a dictionary's are, and which takes the
+// fewest bytes whatever they hold: a UInt of one byte, a string, a sequence. 16 of any other.
+fn short_body(first: u8) -> usize
+    ensures { λ r. ⌜ r ≡ shortBody first ⌝ }
+{
+    if first == 0x40 {
+        return 1;
+    }
+    if first / 16 == 14 {
+        return (first % 16) as usize;
+    }
+    if first / 16 == 8 {
+        return 0;
+    }
+    return 16;
+}
+
+// The place after an atom that is accepted by its first byte; of any other its own.
+fn short_end(source: &[u8], at: usize) -> usize
+    requires { ⌜ at < length (now source) ⌝ }
+    ensures { λ r. ⌜ ((r ≡ at → ⊥) → Fine (now (source .entry)) at r) ⌝ }
+{
+    let body = short_body(source[at]);
+    let from = at + 1;
+    if body < 16 {
+        if body <= source.len() - from {
+            return from + body;
+        }
+    }
+    return at;
+}
+
 // Checks that each of a list's atoms is whole, known and in shortest form, or refuses the first that is not, at the
 // place where it starts.
 pub fn check(source: &[u8]) -> Checked
@@ -165,6 +197,11 @@ pub fn check(source: &[u8]) -> Checked
 {
     let mut at = Place(0);
     while at.0 < source.len() {
+        let end = short_end(source, at.0);
+        if end != at.0 {
+            at = Place(end);
+            continue;
+        }
         match dictionary::skip_atom(source, at, Budget(0xFFFF_FFFF_FFFF_FFFF)) {
             Skipped::Past(next, _, places, _) => {
                 if shortest_atom(source, places) {

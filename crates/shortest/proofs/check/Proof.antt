@@ -29,6 +29,6 @@ pub check-spec : {M : Type 1} → statement M
 check-spec =
     tie.close
     (tie.spec
-    Inv-loop μ-loop (λ c. search check-laws) (λ c κs. search check-laws) (λ c. search check-laws)
-    (λ c κs. search check-laws) (λ c. search check-laws) loop-again returns (λ c. search check-laws) returns-2
-    returns-3)
+    Inv-loop μ-loop (λ c. search check-laws) (λ c κs. search check-laws) (λ c. search check-laws) loop-again
+    (λ c κs. search check-laws) (λ c. search check-laws) (λ c κs. search check-laws) (λ c. search check-laws)
+    (λ c. search check-laws) returns (λ c. search check-laws) returns-2 returns-3)
