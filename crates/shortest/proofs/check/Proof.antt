@@ -16,6 +16,9 @@ abbrev μ-loop : tie.MeasureT-loop
 loop-again : tie.Need-loop-again Inv-loop μ-loop
 loop-again c = search check-laws
 
+loop-again-2 : tie.Need-loop-again-2 Inv-loop μ-loop
+loop-again-2 c = search check-laws
+
 returns : tie.Need-returns Inv-loop μ-loop
 returns c = search check-laws
 
@@ -31,4 +34,4 @@ check-spec =
     (tie.spec
     Inv-loop μ-loop (λ c. search check-laws) (λ c κs. search check-laws) (λ c. search check-laws) loop-again
     (λ c κs. search check-laws) (λ c. search check-laws) (λ c κs. search check-laws) (λ c. search check-laws)
-    (λ c. search check-laws) returns (λ c. search check-laws) returns-2 returns-3)
+    loop-again-2 returns (λ c. search check-laws) returns-2 returns-3)
