@@ -275,8 +275,9 @@ fn check_over<'a, R: Source<'a>>(source: &'a [u8], mut reader: R, scratch: &mut 
 }
 
 /// The check for shortest form: each atom is read and written once more, and what is written must be what was read; the
-/// error is where the first bad atom starts. Of nine shapes this was the fastest: others wrote into a reused `Vec` or an
-/// array, each atom whole or a string's header alone, or the whole file, and compared after that.
+/// error is where the first bad atom starts. Of nine shapes this was the fastest (a Xeon): others wrote into a reused `Vec`
+/// or an array, each atom whole or a string's header alone, or the whole file, and compared after that. The others were
+/// not tried with writers of their own.
 #[inline(never)]
 pub fn check(source: &[u8], scratch: &mut Vec<u8>) -> Result<(), u64> {
     check_over(source, IoReader::new(source), scratch)

@@ -4,12 +4,18 @@
 use mathlib.Core.Path.{_≡_, refl, _∙_, sym, ap, subst}
 use mathlib.Core.Bool.{Bool, true, false, false≢true}
 use mathlib.Core.List.{List, [], _∷_, _++_}
-use Prim.Native.Nat.{ℕ, zero, suc, _≤_}
+use Prim.Native.Nat.{ℕ, zero, suc, _+_, _≤_}
 use native.Mathlib.Omega.{arith}
 use lib.Dec.{lit<}
-use lib.ListN.{length, length-append}
-use Rattle.dictionary.specs.Wholes.{Atoms}
+use lib.ListN.{length, take, drop, length-append}
+use lib.Seq.{take-append-seam, drop-append-seam}
+use Rattle.types.specs.Forms.{bodyLength}
+use Rattle.types.specs.declared.Kind.{Kind}
+use Rattle.header.specs.Header.{headerKind, headerArgument, headerLength}
+use Rattle.dictionary.specs.Wholes.{IsAtom, Atoms}
 use Rattle.dictionary.specs.Wholes as Wholes
+use Rattle.dictionary.proofs.Fronts.{front}
+use Rattle.dictionary.proofs.Wholes.{atom-some}
 use Rattle.shortest.specs.Meanings.{Meant, meant, meanings, Bytes, AllProper}
 use Rattle.shortest.specs.Meanings as Meanings
 use Rattle.shortest.specs.Forms.{shortest, allShortest, Accepted, shortestBytes, shortestAtoms, joined}
@@ -31,6 +37,51 @@ front-bytes (x ∷ a) b B (suc i) = front-bytes a b (λ j. B (suc j)) i
 back-bytes : (a b : List ℕ) → Bytes (a ++ b) → Bytes b
 back-bytes [] b B = B
 back-bytes (x ∷ a) b B = back-bytes a b (λ j. B (suc j))
+
+-- BYTES ARE A LIST OF WHOLE, KNOWN ATOMS IN AT MOST ONE WAY, so that they have one list of meanings
+own-length : (atom rest l : List ℕ) → IsAtom atom → atom ++ rest ≡ l →
+    length atom ≡ headerLength l + bodyLength (headerKind l) (headerArgument l)
+own-length atom rest l w e =
+    let f = front atom rest (w .its-header) in
+    let k : headerKind atom ≡ headerKind l = sym (f .same-kind) ∙ ap headerKind e in
+    let a : headerArgument atom ≡ headerArgument l = sym (f .same-argument) ∙ ap headerArgument e in
+    let n : headerLength atom ≡ headerLength l = sym (f .same-length) ∙ ap headerLength e in
+    w .its-length
+    ∙ ap (λ (i : ℕ). i + bodyLength (headerKind atom) (headerArgument atom)) n
+    ∙ ap (λ (q : Kind). headerLength l + bodyLength q (headerArgument atom)) k
+    ∙ ap (λ (i : ℕ). headerLength l + bodyLength (headerKind l) i) a
+
+first-one : (atom rest other later : List ℕ) → IsAtom atom → IsAtom other → atom ++ rest ≡ other ++ later →
+    (atom ≡ other) × (rest ≡ later)
+first-one atom rest other later w v e =
+    let n : length atom ≡ length other =
+    own-length atom rest (other ++ later) w e ∙ sym (own-length other later (other ++ later) v refl) in (
+      sym (take-append-seam atom rest)
+          ∙ ap (take (length atom)) e
+          ∙ ap (λ (i : ℕ). take i (other ++ later)) n
+          ∙ take-append-seam other later,
+      sym (drop-append-seam atom rest)
+          ∙ ap (drop (length atom)) e
+          ∙ ap (λ (i : ℕ). drop i (other ++ later)) n
+          ∙ drop-append-seam other later,
+    )
+
+some-bytes : (atom rest : List ℕ) → IsAtom atom → [] ≡ atom ++ rest → ⊥
+some-bytes atom rest w e =
+    let one = atom-some atom w in
+    let n : 0 ≡ length (atom ++ rest) = ap length e in
+    omega (arith, length-append atom rest)
+
+one-way-at : {s t : List ℕ} {atoms others : List (List ℕ)} → Atoms s atoms → Atoms t others → s ≡ t → atoms ≡ others
+one-way-at Wholes.none Wholes.none e = refl
+one-way-at Wholes.none (Wholes.more {atom} {rest} w r) e = absurd (some-bytes atom rest w e)
+one-way-at (Wholes.more {atom} {rest} w r) Wholes.none e = absurd (some-bytes atom rest w (sym e))
+one-way-at (Wholes.more {atom} {rest} {atoms} w r) (Wholes.more {atom = other} {rest = later} {atoms = others} v q) e =
+    let f = first-one atom rest other later w v e in
+    ap (λ (l : List ℕ). l ∷ atoms) (f .0) ∙ ap (λ (l : List (List ℕ)). other ∷ l) (one-way-at r q (f .1))
+
+pub one-way : {s : List ℕ} {atoms others : List (List ℕ)} → Atoms s atoms → Atoms s others → atoms ≡ others
+one-way w v = one-way-at w v refl
 
 -- THE MEANINGS OF WHOLE, KNOWN ATOMS are such as atoms have
 pub list-proper : {s : List ℕ} {atoms : List (List ℕ)} → Atoms s atoms → Bytes s → AllProper (meanings atoms)
