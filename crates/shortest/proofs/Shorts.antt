@@ -81,8 +81,8 @@ unfolding numberAt
 one-low s at bytes = number-lt 1 s at (λ i. bytes i .fits)
 
 -- what stands at a place, by its first byte
-module _ (s : List ℕ) (at : ℕ) (within : at < length s) (bytes : Fit (fInt w8) 0 s) (n : ℕ) (room : n ≤ length s - (at + 1))
-  where
+module _ (s : List ℕ) (at : ℕ) (within : at < length s) (bytes : Fit (fInt w8) 0 s) where
+  module _ (n : ℕ) (room : n ≤ length s - (at + 1)) where
     abbrev b : ℕ
     b = getD s at 0
 
