@@ -364,8 +364,8 @@ pub shortest-least : {s t : List ℕ} {atoms others : List (List ℕ)} →
     length s ≤ length t
 shortest-least = Lists.none-shorter
 
--- WHAT OUR WRITERS OF VALUES WRITE IS ACCEPTED, each writer, every value, and lists of it, with the meanings of what was
--- given;
+-- WHAT OUR WRITERS OF VALUES WRITE IS ACCEPTED, each writer, every value, and lists of it, with the meanings of what
+-- was given;
 pub shortest-written : {vs : List Value} →
     AllStorable vs →
     Accepted (joined (writtenAll vs)) (writtenAll vs) × (meanings (writtenAll vs) ≡ meantAll vs)

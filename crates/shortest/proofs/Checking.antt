@@ -1,5 +1,5 @@
--- The check's loop: what holds before each turn, what a turn keeps of it, and what the check answers at its ends. A turn
--- of the loop is a turn of the definition, over the step's own walk, `dictionary.Turns`.
+-- The check's loop: what holds before each turn, what a turn keeps of it, and what the check answers at its ends. A
+-- turn of the loop is a turn of the definition, over the step's own walk, `dictionary.Turns`.
 use mathlib.Core.Path.{_≡_, refl, _∙_, sym, ap, subst}
 use mathlib.Core.Bool.{Bool, true, false, false≢true}
 use mathlib.Core.List.{List, _++_}

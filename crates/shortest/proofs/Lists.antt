@@ -1,6 +1,6 @@
--- ONE FORM FOR EACH LIST OF MEANINGS, AND EACH HAS ONE: accepted lists and lists of meanings that atoms have are the same
--- thing, both ways; and no list with the same meanings is shorter. By induction over the list, from the laws of one
--- atom.
+-- ONE FORM FOR EACH LIST OF MEANINGS, AND EACH HAS ONE: accepted lists and lists of meanings that atoms have are the
+-- same thing, both ways; and no list with the same meanings is shorter. By induction over the list, from the laws of
+-- one atom.
 use mathlib.Core.Path.{_≡_, refl, _∙_, sym, ap, subst}
 use mathlib.Core.Bool.{Bool, true, false, false≢true}
 use mathlib.Core.List.{List, [], _∷_, _++_}

@@ -1,4 +1,5 @@
--- Atoms that are accepted by their first byte: a UInt of one byte, a string, a sequence, each whole, is in shortest form.
+-- Atoms that are accepted by their first byte: a UInt of one byte, a string, a sequence, each whole, is in shortest
+-- form.
 use mathlib.Core.Path.{_≡_, refl, _∙_, sym, ap, subst}
 use mathlib.Core.Bool.{Bool, true, false, _&&_}
 use mathlib.Core.List.{List, [], _∷_}

@@ -1,5 +1,5 @@
--- An atom that the step has passed, by its places: where its bytes are in the source, and what its first byte says of it
--- where its header is that byte. Behind a longer header that is the writer's there is no number.
+-- An atom that the step has passed, by its places: where its bytes are in the source, and what its first byte says of
+-- it where its header is that byte. Behind a longer header that is the writer's there is no number.
 use mathlib.Core.Path.{_≡_, refl, _∙_, sym, ap}
 use mathlib.Core.Bool.{Bool, true, false, _&&_, false≢true}
 use mathlib.Core.List.{List, [], _∷_}

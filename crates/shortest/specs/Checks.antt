@@ -1,5 +1,5 @@
--- THE CHECKER. Document 02, K3: "Refusals, each with the start of its atom: 11 NotShortest, after 3, 4 and 6 of the same
--- atom."
+-- THE CHECKER. Document 02, K3: "Refusals, each with the start of its atom: 11 NotShortest, after 3, 4 and 6 of the
+-- same atom."
 use Prim.Native.Nat.{ℕ, zero, suc, _-_, _≤_}
 use mathlib.Core.Path.{_≡_}
 use mathlib.Core.Bool.{false}

@@ -1,5 +1,5 @@
--- THE SHORTEST FORM of an atom. Document 02, K3: "its header is byte for byte what our header writer gives for that kind
--- and argument, its number uses the smallest allowed count for its kind, and a float that is not NaN its smallest
+-- THE SHORTEST FORM of an atom. Document 02, K3: "its header is byte for byte what our header writer gives for that
+-- kind and argument, its number uses the smallest allowed count for its kind, and a float that is not NaN its smallest
 -- width".
 use Prim.Native.Nat.{ℕ, _-_}
 use mathlib.Core.Path.{_≡_}

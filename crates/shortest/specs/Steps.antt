@@ -1,5 +1,5 @@
--- What the steps of the check do: for the contracts of private functions alone. An atom that the step has passed, by its
--- places, and what is judged of it.
+-- What the steps of the check do: for the contracts of private functions alone. An atom that the step has passed, by
+-- its places, and what is judged of it.
 use Prim.Native.Nat.{ℕ, _+_, _/_, _%_, _≤_, _<_}
 use mathlib.Core.Path.{_≡_}
 use mathlib.Core.Bool.{true}
@@ -33,8 +33,8 @@ abbrev pub floatAt : ℕ → List ℕ → ℕ → Meant
 floatAt count s at =
     floatMeant count (numberAt count s at) (meaning (layoutAt count) (numberAt count s at))
 
--- the body bytes of an atom whose header is this byte alone, and which takes the fewest bytes whatever they hold: a UInt
--- of one byte, a string, a sequence; 16 of any other
+-- the body bytes of an atom whose header is this byte alone, and which takes the fewest bytes whatever they hold: a
+-- UInt of one byte, a string, a sequence; 16 of any other
 abbrev pub shortBody : ℕ → ℕ
 shortBody b = pick (eqb b 0x40) 1 (pick (eqb (b / 16) 14) (b % 16) (pick (eqb (b / 16) 8) 0 16))
 
