@@ -13,7 +13,6 @@ use lib.IntN.{ℤ}
 use lib.ListN.{length}
 use lib.Ieee.{binary32, binary64, toBits}
 use lib.Ieee.Bits.{toBits-lt}
-use borrow.Author.Tests.{ltb-true, lt-ltb}
 use Rattle.types.specs.Forms.{listed, allowedCount, allowedFloat}
 use Rattle.types.specs.Values.{value, joined, joinedSigned}
 use Rattle.types.specs.declared.Kind.{Kind}
@@ -30,7 +29,7 @@ use Rattle.types.specs.declared.TallyAnswer.the-variants as TA
 use Rattle.cast.specs.Variants.{sign, width, inRange}
 use Rattle.header.specs.Header.{headerBytes}
 use Rattle.little.specs.Le.{toLE}
-use Rattle.little.specs.Counts.{holdsU, holdsS}
+use Rattle.little.specs.Counts.{holdsS}
 use Rattle.little.proofs.Two.{holdsU-more, holdsS-more}
 use Rattle.integer.proofs.Counts.{allowed-bounds}
 use Rattle.binary.specs.Formats.{half, single, double, Meaning, finite, infinite, meaning, NotNan}
@@ -42,7 +41,7 @@ use Rattle.binary.proofs.Narrowing.{infinite-here, infinity-lt}
 use Rattle.float.specs.Floats.{layoutAt}
 use Rattle.float.specs.Bytes.{floatBytes, f32Bytes, f64Bytes}
 use Rattle.float.specs.Bytes as Floats
-use Rattle.float.proofs.Counts.{Allowed, two, four, eight, allowed-is, is-allowed}
+use Rattle.float.proofs.Counts.{Allowed, two, four, eight, allowed-is, is-allowed, allowed-most}
 use Rattle.float.proofs.Stored.{Stored, stored-single, stored-double}
 use Rattle.writers.specs.Bytes.{integerBytes, signedBytes, unsignedBytes, specialBytes}
 use Rattle.writers.specs.Bytes as Writers
@@ -57,8 +56,8 @@ use Rattle.shortest.specs.Forms as Forms
 use Rattle.shortest.specs.Checks.{checkAll, Unfit, Refused}
 use Rattle.shortest.specs.Checks as Checks
 use Rattle.shortest.proofs.Floats.{pattern-lt, pattern-means, infinity-low, has-more, finite-has, width-patterns}
-use Rattle.shortest.proofs.Forms.{fewest-held}
-use Rattle.shortest.proofs.Meanings.{float-most, float-least}
+use Rattle.shortest.proofs.Forms.{held-lt, fewest-held}
+use Rattle.shortest.proofs.Meanings.{lt-held, float-most, float-least}
 use Rattle.shortest.proofs.Answers as Answers
 use Rattle.shortest.proofs.Lists.{each-accepted, each-means, accepted-is, list-proper}
 use Rattle.promises.specs.Told.{Told, toldChecked}
@@ -244,15 +243,11 @@ written-shortest (Given.string l h) = refl
 written-shortest (Given.header kind w arg h) = header-shortest kind w arg
 
 -- and it means what atoms can mean
-lt-held : (k : ℕ) → k < 256 ^ 16 → holdsU 16 k ≡ true
-unfolding holdsU
-lt-held k h = lt-ltb k (256 ^ 16) h
-
 signed-proper : (z : ℤ) → holdsS 16 z ≡ true → Proper (M.int z)
 signed-proper z h = (16, (sixteen, h))
 
 unsigned-proper : (k : ℕ) → k < 256 ^ 16 → Proper (M.uint k)
-unsigned-proper k h = (16, (sixteen, lt-held k h))
+unsigned-proper k h = (16, (sixteen, lt-held 16 k h))
 
 integer-proper : (x : Integer) → inRange (sign x) (width x) (value x) ≡ true → Proper (integerMeant x)
 integer-proper (I.I8 z) h = signed-proper z (held-by (2 ^ 7) z (le-of-lt (lit< tt)) h)
@@ -314,14 +309,6 @@ written-accepted {vs} bs =
 -- ---- AN ACCEPTED LIST IS WHAT OUR WRITERS WRITE, but for a NaN of 2 bytes
 
 -- a value for each meaning
-wider : (c : ℕ) → allowedFloat c ≡ true → c ≤ 8
-wider c a = of (allowed-is c a)
-  where
-    of : Allowed c → c ≤ 8
-    of (two e) = omega arith
-    of (four e) = omega arith
-    of (eight e) = omega arith
-
 nan-value : (n b : ℕ) → Allowed n → (n ≡ 2 → ⊥) → b < 256 ^ n →
     ((s : Bool) × (t : ℕ) × (meaning (layoutAt n) b ≡ Formats.nan s t)) →
     (v : Value) × (valueMeant v ≡ M.nan n b)
@@ -335,18 +322,14 @@ nan-value n b (eight e) other low x =
     subst (λ (k : ℕ). meaning (layoutAt k) b ≡ Formats.nan (x .0) (x .1)) e (x .2) in
     (Given.f64-bits b (rw e at low), ap (floatMeant 8 b) m ∙ ap (λ (k : ℕ). M.nan k b) (sym e))
 
-held-lt : (k : ℕ) → holdsU 16 k ≡ true → k < 256 ^ 16
-unfolding holdsU
-held-lt k h = ltb-true k (256 ^ 16) h
-
 value-for : (c : ℕ) (m : Meant) → HeldBy c m → Writable m → (v : Value) × (valueMeant v ≡ m)
 value-for c (M.special s) h w = (Given.special s, refl)
 value-for c (M.int z) h w = (Given.number z (holdsS-more c 16 z (allowed-bounds c (h .0) .1) (h .1)), refl)
 value-for c (M.uint k) h w =
-    (Given.natural k (held-lt k (holdsU-more c 16 k (allowed-bounds c (h .0) .1) (h .1))), refl)
+    (Given.natural k (held-lt 16 k (holdsU-more c 16 k (allowed-bounds c (h .0) .1) (h .1))), refl)
 value-for c (M.float s m) h w =
     let bits : ℕ = withSign double s (candidate double m) in
-    let has-double = has-more m c 8 (h .0) (is-allowed 8 (eight refl)) (wider c (h .0)) (h .1) in (
+    let has-double = has-more m c 8 (h .0) (is-allowed 8 (eight refl)) (allowed-most c (h .0)) (h .1) in (
       Given.f64-bits bits (pattern-lt 8 s m (is-allowed 8 (eight refl)) has-double),
       ap (floatMeant 8 bits) (pattern-means double s m has-double),
     )

@@ -73,7 +73,7 @@ abbrev pub every : (ℕ → Bool) → List ℕ → Bool
 every test [] = true
 every test (d ∷ ds) = test d && every test ds
 
-and-true : (a b : Bool) → (a && b) ≡ true → (a ≡ true) × (b ≡ true)
+pub and-true : (a b : Bool) → (a && b) ≡ true → (a ≡ true) × (b ≡ true)
 and-true true true h = (refl, refl)
 and-true true false h = (refl, h)
 and-true false b h = (h, absurd (false≢true cc))

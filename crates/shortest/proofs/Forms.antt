@@ -115,7 +115,7 @@ pub record Formed (c : ℕ) (m : Meant) : Type 0 where
 number-word : (c : ℕ) → c ≤ 16 → c - 1 < sizes
 number-word c h = omega arith
 
-held-lt : (n k : ℕ) → holdsU n k ≡ true → k < 256 ^ n
+pub held-lt : (n k : ℕ) → holdsU n k ≡ true → k < 256 ^ n
 unfolding holdsU
 held-lt n k h = ltb-true k (256 ^ n) h
 

@@ -2,7 +2,7 @@
 -- header is the writer's is the form at that count, and one in shortest form is the shortest bytes of its meaning. No
 -- atom is shorter than that.
 use mathlib.Core.Path.{_≡_, refl, _∙_, sym, ap, subst}
-use mathlib.Core.Bool.{Bool, true, false, _&&_, false≢true}
+use mathlib.Core.Bool.{Bool, true, false}
 use mathlib.Core.List.{List, [], _∷_, _++_}
 use Prim.Native.Nat.{ℕ, zero, suc, _+_, _-_, _*_, _^_, _≤_, _<_}
 use native.Mathlib.Omega.{arith}
@@ -39,7 +39,7 @@ use Rattle.shortest.specs.Meanings.{Meant, special, int, uint, float, in
 use Rattle.shortest.specs.Meanings.{kindOf, floatMeant, meantBy, meant, Bytes, HeldBy, Proper}
 use Rattle.shortest.specs.Forms.{shortestHeader, shortestF, fewest, shortest, argumentAt, bodyAt, formAt, fewestCount, shortestBytes}
 use Rattle.shortest.proofs.Headers.{same-is}
-use Rattle.shortest.proofs.Counts.{first-most, written-rising}
+use Rattle.shortest.proofs.Counts.{and-true, first-most, written-rising}
 use Rattle.shortest.proofs.Floats.{has-more, finite-has, floats-rising, pattern-means, pattern-below, width-patterns}
 use Rattle.shortest.proofs.Standing.{drop-bytes}
 use Rattle.shortest.proofs.Forms.{float-bounds}
@@ -89,7 +89,7 @@ module _ (c : ℕ) (body : List ℕ) (long : length body ≡ c) (B : Bytes body)
   number-bytes : toLE c (fromLE body) ≡ body
   number-bytes = ap (λ (n : ℕ). toLE n (fromLE body)) (sym long) ∙ to-from body B
 
-lt-held : (n k : ℕ) → k < 256 ^ n → holdsU n k ≡ true
+pub lt-held : (n k : ℕ) → k < 256 ^ n → holdsU n k ≡ true
 unfolding holdsU
 lt-held n k h = lt-ltb k (256 ^ n) h
 
@@ -225,16 +225,11 @@ form-fewest c (map n) h = refl
 form-fewest c (symbol n) h = refl
 form-fewest c (bytes l) h = refl
 
-both-true : (a b : Bool) → (a && b) ≡ true → (a ≡ true) × (b ≡ true)
-both-true true true h = (refl, refl)
-both-true true false h = (refl, h)
-both-true false b h = (h, absurd (false≢true cc))
-
 -- AN ATOM IN SHORTEST FORM IS THE SHORTEST BYTES OF ITS MEANING
 pub accepted-form : (atom : List ℕ) → IsAtom atom → Bytes atom → shortest atom ≡ true → shortestBytes (meant atom) ≡ atom
 unfolding shortest shortestBytes
 accepted-form atom w B h =
-    let t = both-true (shortestHeader atom) (fewest (countOf (headerArgument atom)) (meant atom)) h in
+    let t = and-true (shortestHeader atom) (fewest (countOf (headerArgument atom)) (meant atom)) h in
     sym (form-fewest (countOf (headerArgument atom)) (meant atom) (t .1)) ∙ atom-form atom w B (t .0)
 
 -- ---- none is shorter

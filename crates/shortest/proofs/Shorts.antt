@@ -1,8 +1,8 @@
 -- Atoms that are accepted by their first byte: a UInt of one byte, a string, a sequence, each whole, is in shortest
 -- form.
 use mathlib.Core.Path.{_≡_, refl, _∙_, sym, ap, subst}
-use mathlib.Core.Bool.{Bool, true, false, _&&_}
-use mathlib.Core.List.{List, [], _∷_}
+use mathlib.Core.Bool.{Bool, true, false}
+use mathlib.Core.List.{List, _∷_}
 use Prim.Native.Nat.{ℕ, suc, _+_, _-_, _/_, _%_, _≤_, _<_}
 use native.Mathlib.Omega.{arith}
 use borrow.Author.Needs.{needs}
@@ -18,7 +18,7 @@ use Rattle.types.specs.Kinds.{kindFrom, kindKnown}
 use Rattle.types.specs.Forms.{countOf, listed, known, bodyLength}
 use Rattle.types.specs.declared.Kind.{Kind}
 use Rattle.types.specs.declared.Kind.the-variants as K
-use Rattle.header.specs.Header.{moreFollow, headerKind, headerArgument, headerLength}
+use Rattle.header.specs.Header.{moreFollow, headerKind, headerArgument}
 use Rattle.header.proofs.Answers.{one-length, one-argument}
 use Rattle.little.specs.Le.{fromLE, numberAt}
 use Rattle.little.proofs.At.{number-lt}
