@@ -41,7 +41,7 @@ use Rattle.binary.proofs.Narrowing.{infinite-here, infinity-lt}
 use Rattle.float.specs.Floats.{layoutAt}
 use Rattle.float.specs.Bytes.{floatBytes, f32Bytes, f64Bytes}
 use Rattle.float.specs.Bytes as Floats
-use Rattle.float.proofs.Counts.{Allowed, two, four, eight, allowed-is, is-allowed, allowed-most}
+use Rattle.float.proofs.Counts.{Allowed, two, four, eight, allowed-is, is-allowed}
 use Rattle.float.proofs.Stored.{Stored, stored-single, stored-double}
 use Rattle.writers.specs.Bytes.{integerBytes, signedBytes, unsignedBytes, specialBytes}
 use Rattle.writers.specs.Bytes as Writers
@@ -55,9 +55,9 @@ use Rattle.shortest.specs.Forms.{shortestF, formAt, shortestBytes, shortestAtom
 use Rattle.shortest.specs.Forms as Forms
 use Rattle.shortest.specs.Checks.{checkAll, Unfit, Refused}
 use Rattle.shortest.specs.Checks as Checks
-use Rattle.shortest.proofs.Floats.{pattern-lt, pattern-means, infinity-low, has-more, finite-has, width-patterns}
+use Rattle.shortest.proofs.Floats.{float-range, pattern-lt, pattern-means, infinity-low, has-more, finite-has, width-patterns}
 use Rattle.shortest.proofs.Forms.{held-lt, fewest-held}
-use Rattle.shortest.proofs.Meanings.{lt-held, float-most, float-least}
+use Rattle.shortest.proofs.Meanings.{lt-held, float-most}
 use Rattle.shortest.proofs.Answers as Answers
 use Rattle.shortest.proofs.Lists.{each-accepted, each-means, accepted-is, list-proper}
 use Rattle.promises.specs.Told.{Told, toldChecked}
@@ -172,7 +172,7 @@ module _ (own bits : ℕ) (bytes : List ℕ) (a : allowedFloat own ≡ true) (B 
         let own-low = subst (λ (n : ℕ). S .stored < n) (sym (width-patterns c its-width)) (S .its-room) in
         let least = width-of (infinite s) e 2 _ (is-allowed 2 (two refl)) (infinity-low 2 s (is-allowed 2 (two refl))) tt
         (infinite-here half s) in
-        let most = float-least c its-width in
+        let most = float-range c its-width .0 in
         let same : c ≡ 2 = omega arith in
         let pattern : S .stored ≡ withSign (layoutAt c) s (Binary.infinity (layoutAt c)) =
         one-pattern (layoutAt c) (S .stored) (withSign (layoutAt c) s (Binary.infinity (layoutAt c))) own-low
@@ -329,7 +329,7 @@ value-for c (M.uint k) h w =
     (Given.natural k (held-lt 16 k (holdsU-more c 16 k (allowed-bounds c (h .0) .1) (h .1))), refl)
 value-for c (M.float s m) h w =
     let bits : ℕ = withSign double s (candidate double m) in
-    let has-double = has-more m c 8 (h .0) (is-allowed 8 (eight refl)) (allowed-most c (h .0)) (h .1) in (
+    let has-double = has-more m c 8 (h .0) (is-allowed 8 (eight refl)) (float-range c (h .0) .1) (h .1) in (
       Given.f64-bits bits (pattern-lt 8 s m (is-allowed 8 (eight refl)) has-double),
       ap (floatMeant 8 bits) (pattern-means double s m has-double),
     )

@@ -29,7 +29,7 @@ use Rattle.reader.specs.Parts.{markedBytes}
 use Rattle.reader.proofs.Delivered.{string-back}
 use Rattle.little.specs.Le.{toLE}
 use Rattle.little.specs.Twos.{twosBits}
-use Rattle.little.specs.Counts.{holdsS, holdsU, shortestS, shortestU}
+use Rattle.little.specs.Counts.{holdsS, shortestS, shortestU}
 use Rattle.little.proofs.Width.{to-length}
 use Rattle.little.proofs.Two.{bits-lt}
 use Rattle.little.proofs.Shortest.{shortestS-holds, shortestS-listed, shortestU-holds, shortestU-listed}
@@ -43,7 +43,9 @@ use Rattle.integer.proofs.RoundTrip.{body-back, int-value-back, uint-value}
 use Rattle.writers.specs.Bytes.{integerBytes, signedBytes, unsignedBytes, valueBytes}
 use Rattle.float.specs.Floats.{floatOf}
 use Rattle.float.specs.Bytes.{floatBytes}
-use Rattle.float.proofs.Counts.{Allowed, two, four, eight, allowed-is}
+use Rattle.float.proofs.Counts.{four, eight, allowed-is}
+use Rattle.shortest.proofs.Floats.{float-bounds}
+use Rattle.shortest.proofs.Forms.{held-lt}
 use Rattle.float.proofs.Stored.{Stored, stored-single, stored-double, meaning-kept}
 use Rattle.float.proofs.RoundTrip as floats
 use Rattle.atom.specs.Atoms.{specialNucleus, atomRead, atomScratch, scratchFrom, scratchCharged, atomFrom, atomAfter}
@@ -165,10 +167,6 @@ signed-back way z before after budget scratch h b =
       int-value-back n z listed held,
     )
 
-held-lt : (n k : ℕ) → holdsU n k ≡ true → k < 256 ^ n
-unfolding holdsU
-held-lt n k h = ltb-true k (256 ^ n) h
-
 -- AN UNSIGNED VALUE likewise
 pub unsigned-back : (way : Way) (k : ℕ) (before after : List ℕ) (budget : Budget) (scratch : List ℕ) →
     k < 256 ^ 16 →
@@ -186,23 +184,17 @@ unsigned-back way k before after budget scratch h b =
       uint-value n listed k,
     )
 
-float-bounds : (n : ℕ) → Allowed n → (0 < n) × (n ≤ 16)
-float-bounds n (two e) = rw e (omega arith, omega arith)
-float-bounds n (four e) = rw e (omega arith, omega arith)
-float-bounds n (eight e) = rw e (omega arith, omega arith)
-
 -- the header of what any float writer stored is one byte
 float-header : (own bits : ℕ) (bytes : List ℕ) (S : Stored own bits bytes) → headerLength bytes ≡ 1
 unfolding floatBytes
 float-header own bits bytes S =
     let n : ℕ = S .count in
-    let a = allowed-is n (S .its-count) in
-    let range = float-bounds n a in
+    let range = float-bounds n (S .its-count) in
     let hd : List ℕ = headerBytes K.Float (n - 1) in
     let le : List ℕ = toLE n (S .stored) in
     let arg : n - 1 < 2 ^ 64 = omega (arith, range .1) in
     let one : length hd ≡ 1 =
-    omega (arith, floats.bytes-length n (S .stored) a, length-append hd le, to-length n (S .stored)) in
+    omega (arith, floats.bytes-length n (S .stored) (allowed-is n (S .its-count)), length-append hd le, to-length n (S .stored)) in
     ap headerLength (S .its-bytes) ∙ header-long K.Float (n - 1) le arg ∙ one
 
 -- what any float writer stored reads back with the stored bits beside the value; `Stored` says that the value is the
@@ -218,7 +210,7 @@ float-back way own bits bytes before after S budget scratch b =
     let n : ℕ = S .count in
     let s : List ℕ = before ++ (bytes ++ after) in
     let back = floats.written-back way own bits bytes before after S in
-    let range = float-bounds n (allowed-is n (S .its-count)) in
+    let range = float-bounds n (S .its-count) in
     let long : length s ≡ length before + (length bytes + length after) = simp length-append in
     let at : placeIn (length s) (length before) ≡ length before = place-same (length s) (length before) (omega arith) in
     let first : Place = record { 0 = length before } in
@@ -299,8 +291,7 @@ unsigned-price k h = integer-price K.UInt uint (shortestU k) k (written-read (sh
 float-price : (own bits : ℕ) (bytes : List ℕ) (S : Stored own bits bytes) → price bytes ≡ numberCharge (S .count)
 unfolding floatBytes
 float-price own bits bytes S =
-    let a = allowed-is (S .count) (S .its-count) in
-    let range = float-bounds (S .count) a in
+    let range = float-bounds (S .count) (S .its-count) in
     let arg : S .count - 1 < 2 ^ 64 = omega (arith, range .1) in
     ap price (S .its-bytes)
     ∙ price-headed K.Float (S .count - 1) (toLE (S .count) (S .stored)) arg

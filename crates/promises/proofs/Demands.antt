@@ -304,9 +304,9 @@ demand3-otherwise s = ⊎-elim inl (λ broken. inr (broken, stops broken)) (Pric
       afforded = λ budget enough. Runs.broken-run s broken budget enough;
     }
 
--- DELIVERIES IN SHORTEST FORM (document 02, K3). Every list has its row of the check: accepted, or refused at the first
--- atom that is not whole, not known or not in shortest form, by 3, 4 or 6, and only then 11, with the place where that
--- atom starts;
+-- DELIVERIES IN SHORTEST FORM (document 02, K3). Every list has its row of the check: accepted, or refused at the
+-- first atom that is not whole, not known or not in shortest form, by 3, 4 or 6, and only then 11, with the place where
+-- that atom starts;
 pub shortest-check : (s : List ℕ) → CheckRow s (toldChecked (checkAll s))
 shortest-check = Deliveries.every-check
 

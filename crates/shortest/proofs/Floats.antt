@@ -22,6 +22,19 @@ use Rattle.shortest.specs.Meanings.{floatMeant}
 use Rattle.shortest.specs.Forms.{shortestF, fewest}
 use Rattle.shortest.proofs.Counts.{before, beside, is-beside, first-is}
 
+-- ---- the widths
+
+pub float-range : (c : ℕ) → allowedFloat c ≡ true → (2 ≤ c) × (c ≤ 8)
+float-range c a = of (allowed-is c a)
+  where
+    of : Allowed c → (2 ≤ c) × (c ≤ 8)
+    of (two e) = (omega arith, omega arith)
+    of (four e) = (omega arith, omega arith)
+    of (eight e) = (omega arith, omega arith)
+
+pub float-bounds : (c : ℕ) → allowedFloat c ≡ true → (0 < c) × (c ≤ 16)
+float-bounds c a = let r = float-range c a in (omega (arith, r .0), omega (arith, r .1))
+
 -- ---- a format's magnitudes
 
 -- a wider format has what a narrower has

@@ -34,13 +34,12 @@ use Rattle.binary.specs.Conversions.{withSign, candidate, has}
 use Rattle.binary.specs.Conversions as Binary
 use Rattle.binary.proofs.Narrowing.{infinite-here}
 use Rattle.float.specs.Floats.{layoutAt}
-use Rattle.float.proofs.Counts.{Allowed, two, four, eight, allowed-is}
 use Rattle.dictionary.specs.Wholes.{IsAtom}
 use Rattle.shortest.specs.Meanings.{Meant, special, int, uint, float, infinity, nan, sequence, map, symbol, bytes}
 use Rattle.shortest.specs.Meanings.{kindOf, floatMeant, meantBy, meant, Bytes, HeldBy, Proper}
 use Rattle.shortest.specs.Forms.{shortestHeader, shortestF, fewest, shortest, argumentAt, bodyAt, formAt, fewestCount, shortestBytes}
 use Rattle.shortest.proofs.Headers.{is-same}
-use Rattle.shortest.proofs.Floats.{pattern-means, pattern-lt, infinity-low}
+use Rattle.shortest.proofs.Floats.{float-bounds, pattern-means, pattern-lt, infinity-low}
 
 -- ---- a header of the writer's, and a body behind it
 
@@ -96,14 +95,6 @@ pub count-back : (c : ℕ) → 0 < c → c ≤ 16 → countOf (c - 1) ≡ c
 count-back c some most =
     let e : c - 1 + 1 ≡ c = omega arith in
     ap (λ (n : ℕ). n % sizes) e ∙ mod-eq-of-lt (omega arith)
-
-pub float-bounds : (c : ℕ) → allowedFloat c ≡ true → (0 < c) × (c ≤ 16)
-float-bounds c a = of (allowed-is c a)
-  where
-    of : Allowed c → (0 < c) × (c ≤ 16)
-    of (two e) = (omega arith, omega arith)
-    of (four e) = (omega arith, omega arith)
-    of (eight e) = (omega arith, omega arith)
 
 -- WHAT A FORM IS: its header has an argument and a body that mean the meaning
 pub record Formed (c : ℕ) (m : Meant) : Type 0 where

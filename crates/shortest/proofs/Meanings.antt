@@ -33,16 +33,15 @@ use Rattle.binary.specs.Conversions as Binary
 use Rattle.binary.proofs.Patterns.{one-pattern}
 use Rattle.binary.proofs.Narrowing.{infinite-here, infinity-lt}
 use Rattle.float.specs.Floats.{layoutAt}
-use Rattle.float.proofs.Counts.{Allowed, two, four, eight, allowed-is}
 use Rattle.dictionary.specs.Wholes.{IsAtom}
 use Rattle.shortest.specs.Meanings.{Meant, special, int, uint, float, infinity, nan, sequence, map, symbol, bytes}
 use Rattle.shortest.specs.Meanings.{kindOf, floatMeant, meantBy, meant, Bytes, HeldBy, Proper}
 use Rattle.shortest.specs.Forms.{shortestHeader, shortestF, fewest, shortest, argumentAt, bodyAt, formAt, fewestCount, shortestBytes}
 use Rattle.shortest.proofs.Headers.{same-is}
 use Rattle.shortest.proofs.Counts.{and-true, first-most, written-rising}
+use Rattle.shortest.proofs.Floats.{float-range, float-bounds}
 use Rattle.shortest.proofs.Floats.{has-more, finite-has, floats-rising, pattern-means, pattern-below, width-patterns}
 use Rattle.shortest.proofs.Standing.{drop-bytes}
-use Rattle.shortest.proofs.Forms.{float-bounds}
 
 -- ---- a kind, an argument and a body
 
@@ -258,14 +257,6 @@ number-least kind n c bits h most =
     let long = to-length n bits in
     omega arith
 
-pub float-least : (c : ℕ) → allowedFloat c ≡ true → 2 ≤ c
-float-least c a = of (allowed-is c a)
-  where
-    of : Allowed c → 2 ≤ c
-    of (two e) = omega arith
-    of (four e) = omega arith
-    of (eight e) = omega arith
-
 -- the form at the fewest count is no longer than a header of that argument, and the body at another that holds it
 form-least : (c : ℕ) (m : Meant) → HeldBy c m → (h : ℕ) → 1 ≤ h → length (headerBytes (kindOf m) (argumentAt c m)) ≤ h →
     length (formAt (fewestCount m) m) ≤ h + length (bodyAt c m)
@@ -291,7 +282,7 @@ form-least c (float s m) held h one l =
 form-least c (infinity s) held h one l =
     let b = float-bounds c held in
     let f : Layout = layoutAt 2 in
-    let n = number-least K.Float 2 c (withSign f s (Binary.infinity f)) (float-least c held) (b .1) in
+    let n = number-least K.Float 2 c (withSign f s (Binary.infinity f)) (float-range c held .0) (b .1) in
     omega (arith, to-length c (withSign (layoutAt c) s (Binary.infinity (layoutAt c))))
 form-least c (nan w b) held h one l = omega (arith, length-append (headerBytes K.Float (w - 1)) (toLE w b))
 form-least c (sequence n) held h one l = omega (arith, length-append (headerBytes K.Sequence n) [])

@@ -26,11 +26,12 @@ use Rattle.little.specs.Le.{numberAt}
 use Rattle.little.specs.Twos.{twos}
 use Rattle.little.specs.Counts.{shortestU, shortestS}
 use Rattle.integer.proofs.Counts.{allowed-bounds}
-use Rattle.float.proofs.Counts.{Allowed, two, four, eight, allowed-is, allowed-most}
+use Rattle.float.proofs.Counts.{two}
 use Rattle.dictionary.specs.Wholes.{IsAtom}
 use Rattle.shortest.specs.Meanings.{Bytes, meantBy, meant}
 use Rattle.shortest.specs.Forms.{shortestHeader, fewest, shortest}
 use Rattle.shortest.specs.Steps.{atomAt, Stands, floatAt}
+use Rattle.shortest.proofs.Floats.{float-bounds}
 use Rattle.shortest.proofs.Headers.{same-is, code-back, header-one, zero-last, short-last, tenth-last}
 
 -- bytes of a part of bytes
@@ -81,13 +82,7 @@ no-number K.Int arg body count h w k =
 no-number K.UInt arg body count h w k =
     let b = allowed-bounds (countOf arg) k in absurd (no-count arg (countOf arg) h w refl (b .0) (b .1))
 no-number K.Float arg body count h w k =
-    let most = allowed-most (countOf arg) k in
-    absurd (no-count arg (countOf arg) h w refl (float-some (countOf arg) (allowed-is (countOf arg) k)) (omega arith))
-  where
-    float-some : (c : ℕ) → Allowed c → 0 < c
-    float-some c (two e) = omega arith
-    float-some c (four e) = omega arith
-    float-some c (eight e) = omega arith
+    let b = float-bounds (countOf arg) k in absurd (no-count arg (countOf arg) h w refl (b .0) (b .1))
 no-number K.Sequence arg body count h w k = refl
 no-number K.Map arg body count h w k = refl
 no-number K.Symbol arg body count h w k = refl

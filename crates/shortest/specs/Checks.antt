@@ -36,8 +36,8 @@ checkFrom (suc fuel) s at =
 abbrev pub checkAll : List ℕ → Checked
 checkAll s = checkFrom (suc (length s)) s 0
 
--- BYTES WHOSE FIRST ATOM IS REFUSED, and why: it is not whole or not known, which is 3, 4 or 6; or it is, and is not in
--- shortest form
+-- BYTES WHOSE FIRST ATOM IS REFUSED, and why: it is not whole or not known, which is 3, 4 or 6; or it is, and is not
+-- in shortest form
 pub data Unfit : List ℕ → Refusal → Type 0 where
   spoilt : {bytes : List ℕ} {why : Refusal} → Spoilt bytes why → Unfit bytes why
   longer : {bytes : List ℕ} (atom rest : List ℕ) → bytes ≡ atom ++ rest → IsAtom atom → shortest atom ≡ false →
