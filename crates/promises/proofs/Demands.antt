@@ -326,7 +326,10 @@ pub shortest-tally-refused : (s : List ℕ) → length s ≤ mostBytes → (why 
 shortest-tally-refused = Deliveries.refused-tally
 
 -- Bytes are a list of whole, known atoms in at most one way, so that a list of bytes has one list of meanings.
-pub shortest-way : {s : List ℕ} {atoms others : List (List ℕ)} → Atoms s atoms → Atoms s others → atoms ≡ others
+pub shortest-way : {s : List ℕ} {atoms others : List (List ℕ)} →
+    Atoms s atoms →
+    Atoms s others →
+    atoms ≡ others
 shortest-way = Lists.one-way
 
 -- ONE FORM FOR EACH MEANING: two accepted lists with equal meanings have equal bytes.

@@ -40,7 +40,10 @@ checkAll s = checkFrom (suc (length s)) s 0
 -- in shortest form
 pub data Unfit : List ℕ → Refusal → Type 0 where
   spoilt : {bytes : List ℕ} {why : Refusal} → Spoilt bytes why → Unfit bytes why
-  longer : {bytes : List ℕ} (atom rest : List ℕ) → bytes ≡ atom ++ rest → IsAtom atom → shortest atom ≡ false →
+  longer : {bytes : List ℕ} (atom rest : List ℕ) →
+      bytes ≡ atom ++ rest →
+      IsAtom atom →
+      shortest atom ≡ false →
       Unfit bytes R.NotShortest
 
 -- a list that is accepted up to an atom that is refused, and why
