@@ -322,7 +322,7 @@ pub fn read_atom_by(
     ensures { λ r. ⌜ now (scratch .exit) ≡
         atomScratch way (now (source .entry)) (place .0) budget (now (scratch .entry)) ⌝ }
 {
-    match header::read_atom_header(source, place, way) {
+    match header::read_atom_header_by(source, place, way) {
         HeaderAnswer::Read(next, kind, arg) => {
             let first = Place(place.within(source.len()));
             return read_body(source, kind, arg, first, next, budget, scratch, way);

@@ -116,7 +116,7 @@ fn skip_body(source: &[u8], kind: Kind, arg: u64, at: Place, left: Budget) -> St
 fn step_atom(source: &[u8], place: Place, budget: Budget) -> Step
     ensures { λ r. ⌜ r ≡ stepped (now (source .entry)) (place .0) budget ⌝ }
 {
-    match header::read_atom_header(source, place, Way::ExactLent) {
+    match header::read_atom_header_by(source, place, Way::ExactLent) {
         HeaderAnswer::Read(next, kind, arg) => {
             return skip_body(source, kind, arg, next, budget);
         }
@@ -207,7 +207,7 @@ fn last_places(source: &[u8], first: Place, at: Place) -> Places
     if first.0 == at.0 {
         return places_of(first, first, first);
     }
-    match header::read_atom_header(source, first, Way::ExactLent) {
+    match header::read_atom_header_by(source, first, Way::ExactLent) {
         HeaderAnswer::Read(body, _, _) => return places_of(first, body, at),
         HeaderAnswer::Refused(end, _) => return places_of(first, end, at),
     }

@@ -8,7 +8,7 @@ ghost use lib.Ieee.{binary32, binary64, ofBits};
 ghost use Rattle.types.specs.Choice.{pick};
 ghost use Rattle.types.specs.Kinds.{kindFrom, specialFrom};
 ghost use Rattle.types.specs.Ways.{unnamedWay};
-ghost use Rattle.types.specs.declared.Way.the-variants.{ExactLent, ExactCopied};
+ghost use Rattle.types.specs.declared.Way.the-variants.{Filled, ExactLent, ExactCopied};
 ghost use Rattle.types.specs.declared.Special.the-variants.{None, Unit, Named};
 ghost use Rattle.types.specs.declared.Float.the-variants.{F32, F64};
 ghost use Rattle.types.specs.declared.Written.the-variants.{Refused};
@@ -78,7 +78,7 @@ fn read_by(
     words::say_atom(words, answer)
 }
 
-// Reads an atom by the way that names none, which is filled; a string is lent.
+// Reads an atom by the way of the entry that names none, which is exact; a string is lent.
 #[no_mangle]
 pub extern "C" fn pot_read_atom(source: &[u8], place: usize, budget: u64, words: &mut [u64]) -> u64
     ensures { λ r. ⌜ r ≡
@@ -90,6 +90,25 @@ pub extern "C" fn pot_read_atom(source: &[u8], place: usize, budget: u64, words:
 {
     let mut scratch = [0u8; 0];
     read_by(source, place, budget, words, &mut scratch, Way::unnamed())
+}
+
+// Reads an atom, with zeros for what is missing of a header or a number; a string is lent.
+#[no_mangle]
+pub extern "C" fn pot_read_atom_filled(
+    source: &[u8],
+    place: usize,
+    budget: u64,
+    words: &mut [u64],
+) -> u64
+    ensures { λ r. ⌜ r ≡
+        numberOf (saidAtom (atomRead Filled (now (source .entry)) place (record { 0 = budget }) []))
+        (now (words .entry)) ⌝ }
+    ensures { λ r. ⌜ now (words .exit) ≡
+        wordsOf (saidAtom (atomRead Filled (now (source .entry)) place (record { 0 = budget }) []))
+        (now (words .entry)) ⌝ }
+{
+    let mut scratch = [0u8; 0];
+    read_by(source, place, budget, words, &mut scratch, Way::Filled)
 }
 
 // Reads an atom exactly; a string is lent.
@@ -190,10 +209,10 @@ fn read_header_by(source: &[u8], place: usize, way: Way, words: &mut [u64]) -> u
     ensures { λ r. ⌜ now (words .exit) ≡
         wordsOf (saidVersion (versionRead way (now (source .entry)) place)) (now (words .entry)) ⌝ }
 {
-    words::say_version(words, header::read_header(source, Place(place), way))
+    words::say_version(words, header::read_header_by(source, Place(place), way))
 }
 
-// Reads the signature by the way that names none, which is filled.
+// Reads the signature by the way of the entry that names none, which is exact.
 #[no_mangle]
 pub extern "C" fn pot_read_header(source: &[u8], place: usize, words: &mut [u64]) -> u64
     ensures { λ r. ⌜ r ≡
@@ -202,6 +221,16 @@ pub extern "C" fn pot_read_header(source: &[u8], place: usize, words: &mut [u64]
         wordsOf (saidVersion (versionRead unnamedWay (now (source .entry)) place)) (now (words .entry)) ⌝ }
 {
     read_header_by(source, place, Way::unnamed(), words)
+}
+
+// Reads the signature, with zeros for what is missing of it.
+#[no_mangle]
+pub extern "C" fn pot_read_header_filled(source: &[u8], place: usize, words: &mut [u64]) -> u64
+    ensures { λ r. ⌜ r ≡ numberOf (saidVersion (versionRead Filled (now (source .entry)) place)) (now (words .entry)) ⌝ }
+    ensures { λ r. ⌜ now (words .exit) ≡
+        wordsOf (saidVersion (versionRead Filled (now (source .entry)) place)) (now (words .entry)) ⌝ }
+{
+    read_header_by(source, place, Way::Filled, words)
 }
 
 // Reads the signature exactly.

@@ -108,7 +108,12 @@ module _ (way : Way) (s : List ℕ) (place at : ℕ) (w : at ≡ placeIn (length
         let k : headerKind (drop at s) ≡ K.Special = rw none refl in
         cc (e, a, k, lt-leb (at + headerLength (drop at s)) (length s) past)
 
-pub ruleset header-ends = (header-short, header-long, header-eof, header-past, needs)
+-- the entry that names no way
+pub header-unnamed : (way named : Way) (s : List ℕ) (place : ℕ) (answer : HeaderAnswer) →
+    way ≡ named → answer ≡ headerRead way s place → answer ≡ headerRead named s place
+header-unnamed way named s place answer w e = cc
+
+pub ruleset header-ends = (header-short, header-long, header-eof, header-past, header-unnamed, needs)
 
 -- a signature's word: it has every bit of 'Pot', or not
 module _ (word : ℕ) (place : Place) where
@@ -149,4 +154,9 @@ module _ (way : Way) (s : List ℕ) (place at : ℕ) (w : at ≡ placeIn (length
   unfolding versionFrom
   version-eof exactly h x y = cc (lt-leb (at + 4) (length s) (omega arith))
 
-pub ruleset version-ends = (version-whole, version-filled, version-eof, needs)
+-- the entry that names no way
+pub version-unnamed : (way named : Way) (s : List ℕ) (place : ℕ) (answer : VersionAnswer) →
+    way ≡ named → answer ≡ versionRead way s place → answer ≡ versionRead named s place
+version-unnamed way named s place answer w e = cc
+
+pub ruleset version-ends = (version-whole, version-filled, version-eof, version-unnamed, needs)

@@ -7,6 +7,7 @@ ghost use lib.Dec.{ltb};
 ghost use lib.ListN.{length, drop, getD};
 ghost use Rattle.types.specs.declared.Kind.{Kind};
 ghost use Rattle.types.specs.Kinds.{kindFrom, kindKnown};
+ghost use Rattle.types.specs.Ways.{unnamedWay};
 ghost use Rattle.lent.specs.Lent.{writtenAnswer, writtenContent, copiedOver};
 ghost use Rattle.header.specs.Header.{headerRead, headerBytes, laterBytes, laterFrom};
 ghost use Rattle.header.specs.Signature.{versionRead, judged, signatureBytes};
@@ -149,7 +150,7 @@ fn read_later(source: &[u8], at: usize, kind: Kind, low: u64, way: Way) -> Heade
 }
 
 // Reads an atom header (kind and argument) at a place, under a way.
-pub fn read_atom_header(source: &[u8], place: Place, way: Way) -> HeaderAnswer
+pub fn read_atom_header_by(source: &[u8], place: Place, way: Way) -> HeaderAnswer
     ensures { λ r. ⌜ r ≡ headerRead way (now (source .entry)) (place .0) ⌝ }
 {
     let at = place.within(source.len());
@@ -166,6 +167,13 @@ pub fn read_atom_header(source: &[u8], place: Place, way: Way) -> HeaderAnswer
         return HeaderAnswer::Refused(Place(at), Refusal::Eof);
     }
     HeaderAnswer::Read(Place(at), Kind::Special, 0)
+}
+
+// Reads an atom header at a place, by the way of the entry that names none.
+pub fn read_atom_header(source: &[u8], place: Place) -> HeaderAnswer
+    ensures { λ r. ⌜ r ≡ headerRead unnamedWay (now (source .entry)) (place .0) ⌝ }
+{
+    read_atom_header_by(source, place, Way::unnamed())
 }
 
 // Writes the signature. The first three bytes are 'Pot' (0x506F74), and the fourth is the version.
@@ -194,7 +202,7 @@ fn judge(header: u64, place: Place) -> VersionAnswer
 }
 
 // Reads the signature at a place, under a way, and answers the version.
-pub fn read_header(source: &[u8], place: Place, way: Way) -> VersionAnswer
+pub fn read_header_by(source: &[u8], place: Place, way: Way) -> VersionAnswer
     ensures { λ r. ⌜ r ≡ versionRead way (now (source .entry)) (place .0) ⌝ }
 {
     let at = place.within(source.len());
@@ -209,4 +217,11 @@ pub fn read_header(source: &[u8], place: Place, way: Way) -> VersionAnswer
         return VersionAnswer::Refused(Place(source.len()), Refusal::Eof);
     }
     judge(header, Place(source.len()))
+}
+
+// Reads the signature at a place, by the way of the entry that names none.
+pub fn read_header(source: &[u8], place: Place) -> VersionAnswer
+    ensures { λ r. ⌜ r ≡ versionRead unnamedWay (now (source .entry)) (place .0) ⌝ }
+{
+    read_header_by(source, place, Way::unnamed())
 }

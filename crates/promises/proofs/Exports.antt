@@ -21,10 +21,14 @@ use Rattle.exports.proofs.pot_read_atom_copied as pot-read-atom-copied
 use Rattle.exports.proofs.pot_read_atom_copied.Reads as pot-read-atom-copied-reads
 use Rattle.exports.proofs.pot_read_atom_exact as pot-read-atom-exact
 use Rattle.exports.proofs.pot_read_atom_exact.Reads as pot-read-atom-exact-reads
+use Rattle.exports.proofs.pot_read_atom_filled as pot-read-atom-filled
+use Rattle.exports.proofs.pot_read_atom_filled.Reads as pot-read-atom-filled-reads
 use Rattle.exports.proofs.pot_read_header as pot-read-header
 use Rattle.exports.proofs.pot_read_header.Reads as pot-read-header-reads
 use Rattle.exports.proofs.pot_read_header_exact as pot-read-header-exact
 use Rattle.exports.proofs.pot_read_header_exact.Reads as pot-read-header-exact-reads
+use Rattle.exports.proofs.pot_read_header_filled as pot-read-header-filled
+use Rattle.exports.proofs.pot_read_header_filled.Reads as pot-read-header-filled-reads
 use Rattle.exports.proofs.pot_run as pot-run
 use Rattle.exports.proofs.pot_run.Reads as pot-run-reads
 use Rattle.exports.proofs.pot_skip_atom as pot-skip-atom
@@ -90,6 +94,10 @@ use mathlib.Core.Path.{_∙_, sym}
 pub pot-read-atom-one : One pot-read-atom.ended pot-read-atom-reads.Post (λ κs s. now (s .1 .1 .1 .0))
 pot-read-atom-one κs a r₁ r₂ s₁ s₂ p q = (p .0 ∙ sym (q .0), p .1 ∙ sym (q .1))
 
+pub pot-read-atom-filled-one :
+    One pot-read-atom-filled.ended pot-read-atom-filled-reads.Post (λ κs s. now (s .1 .1 .1 .0))
+pot-read-atom-filled-one κs a r₁ r₂ s₁ s₂ p q = (p .0 ∙ sym (q .0), p .1 ∙ sym (q .1))
+
 pub pot-read-atom-exact-one : One pot-read-atom-exact.ended pot-read-atom-exact-reads.Post (λ κs s. now (s .1 .1 .1 .0))
 pot-read-atom-exact-one κs a r₁ r₂ s₁ s₂ p q = (p .0 ∙ sym (q .0), p .1 ∙ sym (q .1))
 
@@ -113,6 +121,10 @@ pot-check-one κs a r₁ r₂ s₁ s₂ p q = (p .0 ∙ sym (q .0), p .1 ∙ sym
 
 pub pot-read-header-one : One pot-read-header.ended pot-read-header-reads.Post (λ κs s. now (s .1 .1 .0))
 pot-read-header-one κs a r₁ r₂ s₁ s₂ p q = (p .0 ∙ sym (q .0), p .1 ∙ sym (q .1))
+
+pub pot-read-header-filled-one :
+    One pot-read-header-filled.ended pot-read-header-filled-reads.Post (λ κs s. now (s .1 .1 .0))
+pot-read-header-filled-one κs a r₁ r₂ s₁ s₂ p q = (p .0 ∙ sym (q .0), p .1 ∙ sym (q .1))
 
 pub pot-read-header-exact-one :
     One pot-read-header-exact.ended pot-read-header-exact-reads.Post (λ κs s. now (s .1 .1 .0))

@@ -43,7 +43,7 @@ fn read_atom_header(text: &[u8], cursor: Cursor, source: &mut [u8], out: &mut [u
     let count = asked.count;
     let place = asked.place;
     let way = asked.way;
-    match header::read_atom_header(&source[0..count], place, way) {
+    match header::read_atom_header_by(&source[0..count], place, way) {
         HeaderAnswer::Read(place, kind, arg) => {
             let placed = replay_wire::taken_at(out, reply, place);
             let put = replay_wire::put_kind(out, placed, kind);
@@ -61,7 +61,7 @@ fn read_header(text: &[u8], cursor: Cursor, source: &mut [u8], out: &mut [u8]) -
     let count = asked.count;
     let place = asked.place;
     let way = asked.way;
-    match header::read_header(&source[0..count], place, way) {
+    match header::read_header_by(&source[0..count], place, way) {
         VersionAnswer::Read(place, version) => {
             let placed = replay_wire::taken_at(out, reply, place);
             return replay_wire::put_word(out, placed, version as u64);

@@ -42,7 +42,7 @@ pub fn judge(file: &[u8]) -> Report
     if 65_536 < file.len() {
         return Report::Refused(Refusal::TooLong, Place(0));
     }
-    match header::read_header(file, Place(0), Way::ExactLent) {
+    match header::read_header_by(file, Place(0), Way::ExactLent) {
         VersionAnswer::Read(_, version) => return count(file, version),
         VersionAnswer::Refused(_, refusal) => return Report::Refused(refusal, Place(0)),
     }

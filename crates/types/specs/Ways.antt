@@ -12,9 +12,9 @@ exact W.Filled = false
 exact W.ExactLent = true
 exact W.ExactCopied = true
 
--- "The entry that names no way is filled."
+-- "The entry that names no way now reads exactly, strings lent." (document 02, K4)
 abbrev pub unnamedWay : Way
-unnamedWay = W.Filled
+unnamedWay = W.ExactLent
 
 -- A header or a number that takes the bytes up to `end`, in a source of that length. Filled: "a header byte or number
 -- byte past the end reads as zero and the place stops at the end"; exact: "anything past the end is refused".

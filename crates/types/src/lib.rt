@@ -368,11 +368,11 @@ impl Special {
 }
 
 impl Way {
-    // The way of the entry that names none.
+    // The way of the entry that names none: nobody is to get zeros who did not ask for them.
     pub fn unnamed() -> Way
         ensures { λ r. ⌜ r ≡ unnamedWay ⌝ }
     {
-        return Way::Filled;
+        return Way::ExactLent;
     }
 
     // Whether anything past the end is refused.

@@ -1,4 +1,4 @@
--- `header::read_atom_header` meets its contract: the first byte decides, and the later bytes are `read_later`'s.
+-- `header::read_atom_header` meets its contract: it is `read_atom_header_by` at the way that is not named.
 use Rattle.header.proofs.Ends.{header-ends}
 use Rattle.header.proofs.read_atom_header.Statement.{statement}
 use Rattle.header.proofs.read_atom_header.Tie as tie
@@ -6,16 +6,8 @@ use Rattle.header.proofs.read_atom_header.Tie as tie
 returns : tie.Need-returns
 returns c = search header-ends
 
-returns-3 : tie.Need-returns-3
-returns-3 c = search header-ends
-
-returns-4 : tie.Need-returns-4
-returns-4 c = search header-ends
-
 pub read-atom-header-spec : {M : Type 1} → statement M
 read-atom-header-spec =
     tie.close
     (tie.spec
-    (λ c κs. search header-ends) (λ c. search header-ends) (λ c κs. search header-ends) (λ c κs. search header-ends)
-    (λ c. search header-ends) returns (λ c. search header-ends) (λ c κs. search header-ends) (λ c. search header-ends)
-    (λ c κs. search header-ends) returns-3 returns-4)
+    (λ c. search header-ends) (λ c κs. search header-ends) (λ c κs. search header-ends) returns)

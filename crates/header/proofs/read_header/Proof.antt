@@ -1,4 +1,4 @@
--- `header::read_header` meets its contract: the word of the four bytes is judged, at the place that each way leaves.
+-- `header::read_header` meets its contract: it is `read_header_by` at the way that is not named.
 use Rattle.header.proofs.Ends.{version-ends}
 use Rattle.header.proofs.read_header.Statement.{statement}
 use Rattle.header.proofs.read_header.Tie as tie
@@ -6,15 +6,8 @@ use Rattle.header.proofs.read_header.Tie as tie
 returns : tie.Need-returns
 returns c = search version-ends
 
-returns-3 : tie.Need-returns-3
-returns-3 c = search version-ends
-
 pub read-header-spec : {M : Type 1} → statement M
 read-header-spec =
     tie.close
     (tie.spec
-    (λ c κs. search version-ends) (λ c κs. search version-ends) (λ c. search version-ends) (λ c κs. search version-ends)
-    (λ c. search version-ends) (λ c. search version-ends) (λ c κs. search version-ends) (λ c. search version-ends)
-    (λ c. search version-ends) (λ c κs. search version-ends) (λ c. search version-ends) (λ c. search version-ends)
-    (λ c. search version-ends) (λ c κs. search version-ends) returns (λ c κs. search version-ends)
-    (λ c. search version-ends) (λ c κs. search version-ends) returns-3)
+    (λ c. search version-ends) (λ c κs. search version-ends) (λ c κs. search version-ends) returns)
