@@ -1,13 +1,15 @@
--- Where exact reading takes an atom, it takes a byte at least, and filled reading gives the same atom, place, budget.
+-- What the two ways of reading an atom differ in: where exact reading takes it, filled reading gives the same atom,
+-- place and budget; else the source ends within it. And where exact reading takes an atom, it takes a byte at least.
 use mathlib.Core.Path.{_≡_, refl, _∙_, sym, ap}
 use mathlib.Core.Bool.{Bool, true, false, false≢true}
 use mathlib.Core.List.{List}
 use Prim.Native.Nat.{ℕ, _+_, _≤_, _<_}
 use native.Mathlib.Omega.{arith}
+use borrow.Author.Tests.{leb-false}
 use lib.Dec.{leb}
 use lib.ListN.{length, drop}
 use Rattle.types.specs.Choice.{pick}
-use Rattle.types.specs.Ways.{exact}
+use Rattle.types.specs.Ways.{exact, Differ, same, cut}
 use Rattle.types.specs.Forms.{known, bodyLength, chargeOf, unknown}
 use Rattle.types.specs.declared.Way.{Way}
 use Rattle.types.specs.declared.Way.the-variants as W
@@ -24,6 +26,7 @@ use Rattle.types.specs.declared.BudgetAnswer.{BudgetAnswer}
 use Rattle.types.specs.declared.BudgetAnswer.the-variants as BA
 use Rattle.types.specs.declared.AtomAnswer.{AtomAnswer}
 use Rattle.types.specs.declared.AtomAnswer.the-variants as A
+use Rattle.types.proofs.Ways.{up-to-differ}
 use Rattle.header.specs.Header.{headerFrom, headerKind, headerArgument, headerLength}
 use Rattle.header.proofs.Fewest.{length-bounds}
 use Rattle.header.proofs.Places.{headerPlace, header-place}
@@ -34,74 +37,95 @@ use Rattle.atom.specs.Atoms.{atomRead, atomFrom, atomAfter, charged, jud
 use Rattle.atom.proofs.Numbers.{NumberForm, integers, floats, numberTaken, integer-taken, float-taken}
 use Rattle.atom.proofs.Forward.{atomPlace, after-on}
 
--- what exact reading takes within the source, filled reading takes too
-filled-too : (t : Bool) (whole filled : AtomAnswer) (q : Place) (c : Budget) (r : Refusal) (p : Place) (b : Budget)
-    (x : Atom) → pick t whole (pick true (A.Refused q c r) filled) ≡ A.Read p b x →
-    pick t whole (pick false (A.Refused q c r) filled) ≡ A.Read p b x
-filled-too true whole filled q c r p b x e = e
-filled-too false whole filled q c r p b x e = absurd (false≢true cc)
+-- what is charged, and known, alike under both ways: the rest makes the difference
+judged-differ : (Eof : AtomAnswer → Type 0) (length end : ℕ) (next : Place) (budget : Budget) (a : BudgetAnswer)
+    (k : Bool) (r : Refusal) (f g : Budget → AtomAnswer) →
+    ((rest : Budget) → Differ Eof length end (f rest) (g rest)) →
+    Differ Eof length end (charged next budget a (λ rest. pick k (f rest) (A.Refused next rest r)))
+    (charged next budget a (λ rest. pick k (g rest) (A.Refused next rest r)))
+judged-differ Eof length end next budget (BA.Left rest) true r f g h = h rest
+judged-differ Eof length end next budget (BA.Left rest) false r f g h = same refl
+judged-differ Eof length end next budget (BA.Refused q) k r f g h = same refl
 
--- the charge, and whether the atom is known, are the same for both
-judged-filled : (next : Place) (budget : Budget) (a : BudgetAnswer) (k : Bool) (r : Refusal) (f g : Budget → AtomAnswer)
-    (p : Place) (b : Budget) (x : Atom) → ((rest : Budget) → f rest ≡ A.Read p b x → g rest ≡ A.Read p b x) →
-    charged next budget a (λ rest. pick k (f rest) (A.Refused next rest r)) ≡ A.Read p b x →
-    charged next budget a (λ rest. pick k (g rest) (A.Refused next rest r)) ≡ A.Read p b x
-judged-filled next budget (BA.Left rest) true r f g p b x h e = h rest e
-judged-filled next budget (BA.Left rest) false r f g p b x h e = absurd (false≢true cc)
-judged-filled next budget (BA.Refused q) k r f g p b x h e = absurd (false≢true cc)
+-- "4 Eof: end of slice", whatever the budget after it
+abbrev pub Ended : List ℕ → AtomAnswer → Type 0
+Ended s answer = (left : Budget) × (answer ≡ A.Refused (record { 0 = length s }) left R.Eof)
 
-module _ (s : List ℕ) (budget : Budget) (scratch : List ℕ) (p : Place) (b : Budget) (x : Atom) where
-  -- what follows a header: a number, and what has no other bytes
+module _ (s : List ℕ) (budget : Budget) (scratch : List ℕ) where
+  -- what follows a header: a number is taken up to its end, and nothing else differs
   module _ (arg : ℕ) (first next : Place) where
     module _ (rest : Budget) where
-      number-filled : (n : NumberForm) (exactly filled : AtomAnswer) →
+      number-differ : (n : NumberForm) (exactly filled : AtomAnswer) →
           exactly ≡ numberTaken n W.ExactLent s arg first next rest →
-          filled ≡ numberTaken n W.Filled s arg first next rest → exactly ≡ A.Read p b x → filled ≡ A.Read p b x
-      number-filled n exactly filled f g e =
-          g
-          ∙ filled-too (leb (next .0 + bodyLength (n .kind) arg) (length s)) _ _ _ _ _ p b x (sym f ∙ e)
+          filled ≡ numberTaken n W.Filled s arg first next rest →
+          Differ (Ended s) (length s) (next .0 + bodyLength (n .kind) arg) exactly filled
+      number-differ n exactly filled f g =
+          rw (f, g) (up-to-differ (length s) (next .0 + bodyLength (n .kind) arg) _ _ (Ended s) (rest, refl))
 
-      taken-filled : (kind : Kind) → bodyTaken W.ExactLent s kind arg first next scratch rest ≡ A.Read p b x →
-          bodyTaken W.Filled s kind arg first next scratch rest ≡ A.Read p b x
-      taken-filled K.Special e = e
-      taken-filled K.Int e =
-          number-filled (integers K.Int) _ _ (integer-taken W.ExactLent s arg first next K.Int rest)
-          (integer-taken W.Filled s arg first next K.Int rest) e
-      taken-filled K.UInt e =
-          number-filled (integers K.UInt) _ _ (integer-taken W.ExactLent s arg first next K.UInt rest)
-          (integer-taken W.Filled s arg first next K.UInt rest) e
-      taken-filled K.Float e =
-          number-filled floats _ _ (float-taken W.ExactLent s arg first next rest)
-          (float-taken W.Filled s arg first next rest) e
-      taken-filled K.Sequence e = e
-      taken-filled K.Map e = e
-      taken-filled K.Symbol e = e
-      taken-filled K.Bytes e = e
+      taken-differ : (kind : Kind) →
+          Differ (Ended s) (length s) (next .0 + bodyLength kind arg)
+          (bodyTaken W.ExactLent s kind arg first next scratch rest)
+          (bodyTaken W.Filled s kind arg first next scratch rest)
+      taken-differ K.Special = same refl
+      taken-differ K.Int =
+          number-differ (integers K.Int) _ _ (integer-taken W.ExactLent s arg first next K.Int rest)
+          (integer-taken W.Filled s arg first next K.Int rest)
+      taken-differ K.UInt =
+          number-differ (integers K.UInt) _ _ (integer-taken W.ExactLent s arg first next K.UInt rest)
+          (integer-taken W.Filled s arg first next K.UInt rest)
+      taken-differ K.Float =
+          number-differ floats _ _ (float-taken W.ExactLent s arg first next rest)
+          (float-taken W.Filled s arg first next rest)
+      taken-differ K.Sequence = same refl
+      taken-differ K.Map = same refl
+      taken-differ K.Symbol = same refl
+      taken-differ K.Bytes = same refl
 
-    after-filled : (kind : Kind) → atomAfter W.ExactLent s kind arg first next budget scratch ≡ A.Read p b x →
-        atomAfter W.Filled s kind arg first next budget scratch ≡ A.Read p b x
+    after-differ : (kind : Kind) →
+        Differ (Ended s) (length s) (next .0 + bodyLength kind arg)
+        (atomAfter W.ExactLent s kind arg first next budget scratch)
+        (atomAfter W.Filled s kind arg first next budget scratch)
     unfolding judged
-    after-filled kind e =
-        judged-filled next budget (budgetAfter budget (chargeOf kind arg)) (known kind arg) (unknown kind arg)
-        (bodyTaken W.ExactLent s kind arg first next scratch) (bodyTaken W.Filled s kind arg first next scratch) p b x
-        (λ rest f. taken-filled rest kind f) e
+    after-differ kind =
+        judged-differ (Ended s) (length s) (next .0 + bodyLength kind arg) next budget
+        (budgetAfter budget (chargeOf kind arg)) (known kind arg) (unknown kind arg)
+        (bodyTaken W.ExactLent s kind arg first next scratch) (bodyTaken W.Filled s kind arg first next scratch)
+        (λ rest. taken-differ rest kind)
 
-  -- the header, whose bytes exact reading has
-  from-filled : (t : Bool) (first next end : Place) (kind : Kind) (arg : ℕ) →
-      atomFrom W.ExactLent s first budget scratch (pick t (H.Read next kind arg) (H.Refused end R.Eof)) ≡ A.Read p b x →
-      atomFrom W.Filled s first budget scratch (pick t (H.Read next kind arg) (H.Read end kind arg)) ≡ A.Read p b x
-  from-filled true first next end kind arg e = after-filled arg first next kind e
-  from-filled false first next end kind arg e = absurd (false≢true cc)
+  -- the header before it
+  from-differ : (t : Bool) (first : Place) (end : ℕ) (kind : Kind) (arg : ℕ) → leb end (length s) ≡ t →
+      Differ (Ended s) (length s) (end + bodyLength kind arg)
+      (atomFrom W.ExactLent s first budget scratch
+      (pick t (H.Read (record { 0 = end }) kind arg) (H.Refused (record { 0 = length s }) R.Eof)))
+      (atomFrom W.Filled s first budget scratch
+      (pick t (H.Read (record { 0 = end }) kind arg) (H.Read (record { 0 = length s }) kind arg)))
+  from-differ true first end kind arg h = after-differ arg first (record { 0 = end }) kind
+  from-differ false first end kind arg h =
+      let past = leb-false end (length s) h in cut (budget, refl) (omega arith)
+
+-- WHAT THE TWO WAYS DIFFER IN: exact reading, strings lent, answers as filled reading does; or the source ends within
+-- the atom, which exact reading refuses by 4, at the source's end
+pub atom-differ : (s : List ℕ) (place : ℕ) (budget : Budget) (scratch : List ℕ) →
+    Differ (Ended s) (length s)
+    (startOf s place + headerLength (drop (startOf s place) s)
+    + bodyLength (headerKind (drop (startOf s place) s)) (headerArgument (drop (startOf s place) s)))
+    (atomRead W.ExactLent s place budget scratch) (atomRead W.Filled s place budget scratch)
+unfolding atomRead headerFrom
+atom-differ s place budget scratch =
+    let at : ℕ = startOf s place in
+    from-differ s budget scratch (leb (at + headerLength (drop at s)) (length s)) (firstPlace s place)
+    (at + headerLength (drop at s)) (headerKind (drop at s)) (headerArgument (drop at s)) refl
 
 -- WHERE EXACT READING SUCCEEDS, FILLED READING GIVES THE SAME atom, place and budget, strings lent
+read-alike : {s : List ℕ} {end : ℕ} {exactly filled : AtomAnswer} {p : Place} {b : Budget} {x : Atom} →
+    Differ (Ended s) (length s) end exactly filled → exactly ≡ A.Read p b x → filled ≡ A.Read p b x
+read-alike (same e) f = sym e ∙ f
+read-alike (cut (left, e) past) f = absurd (false≢true cc)
+
 pub exact-then-filled : (s : List ℕ) (place : ℕ) (budget : Budget) (scratch : List ℕ) (p : Place) (b : Budget)
     (x : Atom) → atomRead W.ExactLent s place budget scratch ≡ A.Read p b x →
     atomRead W.Filled s place budget scratch ≡ A.Read p b x
-unfolding atomRead headerFrom
-exact-then-filled s place budget scratch p b x e =
-    let at : ℕ = startOf s place in
-    from-filled s budget scratch p b x (leb (at + headerLength (drop at s)) (length s)) _ _ _ (headerKind (drop at s))
-    (headerArgument (drop at s)) e
+exact-then-filled s place budget scratch p b x = read-alike (atom-differ s place budget scratch)
 
 -- an exact header takes a byte at least
 header-more : (at n : ℕ) (end : Place) (k : Kind) (a : ℕ) (t e : Bool) → 1 ≤ n → e ≡ true → (p : Place) (kind : Kind)

@@ -8,3 +8,4 @@ pub mod RoundTrip
 pub mod Fewest
 pub mod Zeros
 pub mod Places
+pub mod Ways

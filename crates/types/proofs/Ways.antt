@@ -4,10 +4,11 @@ use mathlib.Core.Bool.{Bool, true, false}
 use Prim.Native.Nat.{ℕ, _≤_, _<_}
 use native.Mathlib.Omega.{arith}
 use lib.Dec.{leb}
-use borrow.Author.Tests.{leb-true, le-leb, lt-leb}
+use borrow.Author.Tests.{leb-true, leb-false, le-leb, lt-leb}
 use Rattle.types.specs.Choice.{pick}
-use Rattle.types.specs.Ways.{exact, upTo}
+use Rattle.types.specs.Ways.{exact, upTo, Differ, same, cut}
 use Rattle.types.specs.declared.Way.{Way}
+use Rattle.types.specs.declared.Way.the-variants as W
 
 module _ {X : Type 0} (way : Way) (length end : ℕ) (taken : ℕ → X) (eof : X) where
   -- within the source both ways agree
@@ -34,3 +35,14 @@ module _ {X : Type 0} (way : Way) (length end : ℕ) (taken : ℕ → X) (eof : 
       between true v f = let l = leb-true end length f in rw (t end) (k, l)
       between false true f = rw e (h, omega arith)
       between false false f = rw (t length) (h, omega arith)
+
+-- WHAT IS TAKEN UP TO AN END, THE TWO WAYS TAKE ALIKE, but where the source ends before it
+pub up-to-differ : {X : Type 0} (length end : ℕ) (taken : ℕ → X) (eof : X) (Eof : X → Type 0) → Eof eof →
+    Differ Eof length end (upTo W.ExactLent length end taken eof) (upTo W.Filled length end taken eof)
+up-to-differ length end taken eof Eof ended = by (leb end length) refl
+  where
+    by : (t : Bool) → leb end length ≡ t →
+        Differ Eof length end (pick t (taken end) (pick true eof (taken length)))
+        (pick t (taken end) (pick false eof (taken length)))
+    by true h = same refl
+    by false h = cut ended (leb-false end length h)

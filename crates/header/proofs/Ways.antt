@@ -1,0 +1,30 @@
+-- What the two ways of reading differ in, of an atom's header and of a signature: both are taken up to an end.
+use mathlib.Core.Path.{_≡_, refl}
+use mathlib.Core.List.{List}
+use Prim.Native.Nat.{ℕ, _+_}
+use lib.ListN.{length, drop}
+use Rattle.types.specs.Counters.{placeIn}
+use Rattle.types.specs.Ways.{Differ}
+use Rattle.types.specs.declared.Way.the-variants as W
+use Rattle.types.specs.declared.Refusal.the-variants as R
+use Rattle.types.specs.declared.HeaderAnswer.{HeaderAnswer}
+use Rattle.types.specs.declared.HeaderAnswer.the-variants as H
+use Rattle.types.specs.declared.VersionAnswer.{VersionAnswer}
+use Rattle.types.specs.declared.VersionAnswer.the-variants as VA
+use Rattle.types.proofs.Ways.{up-to-differ}
+use Rattle.header.specs.Header.{headerRead, headerFrom, headerLength}
+use Rattle.header.specs.Signature.{versionRead, versionFrom}
+
+module _ (s : List ℕ) (place : ℕ) where
+  pub header-differ :
+      Differ (λ (h : HeaderAnswer). h ≡ H.Refused (record { 0 = length s }) R.Eof) (length s)
+      (placeIn (length s) place + headerLength (drop (placeIn (length s) place) s))
+      (headerRead W.ExactLent s place) (headerRead W.Filled s place)
+  unfolding headerFrom
+  header-differ = up-to-differ _ _ _ _ _ refl
+
+  pub version-differ :
+      Differ (λ (v : VersionAnswer). v ≡ VA.Refused (record { 0 = length s }) R.Eof) (length s)
+      (placeIn (length s) place + 4) (versionRead W.ExactLent s place) (versionRead W.Filled s place)
+  unfolding versionFrom
+  version-differ = up-to-differ _ _ _ _ _ refl
