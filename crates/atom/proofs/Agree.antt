@@ -26,14 +26,15 @@ use Rattle.types.specs.declared.BudgetAnswer.{BudgetAnswer}
 use Rattle.types.specs.declared.BudgetAnswer.the-variants as BA
 use Rattle.types.specs.declared.AtomAnswer.{AtomAnswer}
 use Rattle.types.specs.declared.AtomAnswer.the-variants as A
-use Rattle.types.proofs.Ways.{up-to-differ}
+use Rattle.types.proofs.Ways.{up-to-differ, differ-reads}
 use Rattle.header.specs.Header.{headerFrom, headerKind, headerArgument, headerLength}
+use Rattle.little.specs.Le.{numberAt}
 use Rattle.header.proofs.Fewest.{length-bounds}
 use Rattle.header.proofs.Places.{headerPlace, header-place}
 use Rattle.reader.specs.Strings.{startOf}
 use Rattle.reader.proofs.Strings.{start-within}
 use Rattle.atom.specs.Charges.{budgetAfter}
-use Rattle.atom.specs.Atoms.{atomRead, atomFrom, atomAfter, charged, judged, bodyTaken, firstPlace}
+use Rattle.atom.specs.Atoms.{atomRead, atomFrom, atomAfter, atomTaken, charged, judged, bodyTaken, firstPlace}
 use Rattle.atom.proofs.Numbers.{NumberForm, integers, floats, numberTaken, integer-taken, float-taken}
 use Rattle.atom.proofs.Forward.{atomPlace, after-on}
 
@@ -60,7 +61,13 @@ module _ (s : List ℕ) (budget : Budget) (scratch : List ℕ) where
           filled ≡ numberTaken n W.Filled s arg first next rest →
           Differ (Ended s) (length s) (next .0 + bodyLength (n .kind) arg) exactly filled
       number-differ n exactly filled f g =
-          rw (f, g) (up-to-differ (length s) (next .0 + bodyLength (n .kind) arg) _ _ (Ended s) (rest, refl))
+          let count = bodyLength (n .kind) arg in
+          let taken : ℕ → AtomAnswer =
+          λ p. atomTaken (n .kind) arg first next rest (record { 0 = p }) (n .nucleus count (numberAt count s (next .0)))
+          in
+          rw (f, g)
+          (up-to-differ (length s) (next .0 + count) taken (A.Refused (record { 0 = length s }) rest R.Eof) (Ended s)
+          (rest, refl))
 
       taken-differ : (kind : Kind) →
           Differ (Ended s) (length s) (next .0 + bodyLength kind arg)
@@ -117,15 +124,11 @@ atom-differ s place budget scratch =
     (at + headerLength (drop at s)) (headerKind (drop at s)) (headerArgument (drop at s)) refl
 
 -- WHERE EXACT READING SUCCEEDS, FILLED READING GIVES THE SAME atom, place and budget, strings lent
-read-alike : {s : List ℕ} {end : ℕ} {exactly filled : AtomAnswer} {p : Place} {b : Budget} {x : Atom} →
-    Differ (Ended s) (length s) end exactly filled → exactly ≡ A.Read p b x → filled ≡ A.Read p b x
-read-alike (same e) f = sym e ∙ f
-read-alike (cut (left, e) past) f = absurd (false≢true cc)
-
 pub exact-then-filled : (s : List ℕ) (place : ℕ) (budget : Budget) (scratch : List ℕ) (p : Place) (b : Budget)
     (x : Atom) → atomRead W.ExactLent s place budget scratch ≡ A.Read p b x →
     atomRead W.Filled s place budget scratch ≡ A.Read p b x
-exact-then-filled s place budget scratch p b x = read-alike (atom-differ s place budget scratch)
+exact-then-filled s place budget scratch p b x =
+    differ-reads (Ended s) (atom-differ s place budget scratch) (A.Read p b x) (λ ended. false≢true cc)
 
 -- an exact header takes a byte at least
 header-more : (at n : ℕ) (end : Place) (k : Kind) (a : ℕ) (t e : Bool) → 1 ≤ n → e ≡ true → (p : Place) (kind : Kind)

@@ -1,5 +1,5 @@
 -- The laws of the two ways of reading that every reader cites: what is taken within the source, what past its end.
-use mathlib.Core.Path.{_≡_, refl}
+use mathlib.Core.Path.{_≡_, refl, _∙_, sym}
 use mathlib.Core.Bool.{Bool, true, false}
 use Prim.Native.Nat.{ℕ, _≤_, _<_}
 use native.Mathlib.Omega.{arith}
@@ -46,3 +46,15 @@ up-to-differ length end taken eof Eof ended = by (leb end length) refl
         (pick t (taken end) (pick false eof (taken length)))
     by true h = same refl
     by false h = cut ended (leb-false end length h)
+
+-- so where exact reading does not refuse for the end, filled reading answers the same,
+pub differ-reads : {X : Type 0} (Eof : X → Type 0) {length end : ℕ} {exactly filled : X} →
+    Differ Eof length end exactly filled → (x : X) → (Eof x → ⊥) → exactly ≡ x → filled ≡ x
+differ-reads Eof (same e) x whole f = sym e ∙ f
+differ-reads Eof (cut ended past) x whole f = absurd (whole (rw f at ended))
+
+-- and where the two differ, exact reading does refuse for it
+pub differ-cut : {X : Type 0} (Eof : X → Type 0) {length end : ℕ} {exactly filled : X} →
+    Differ Eof length end exactly filled → (exactly ≡ filled → ⊥) → Eof exactly × (length < end)
+differ-cut Eof (same e) unlike = absurd (unlike e)
+differ-cut Eof (cut ended past) unlike = (ended, past)

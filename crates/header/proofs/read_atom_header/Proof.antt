@@ -7,7 +7,4 @@ returns : tie.Need-returns
 returns c = search header-ends
 
 pub read-atom-header-spec : {M : Type 1} → statement M
-read-atom-header-spec =
-    tie.close
-    (tie.spec
-    (λ c. search header-ends) (λ c κs. search header-ends) (λ c κs. search header-ends) returns)
+read-atom-header-spec = tie.close (tie.spec (λ c κs. search header-ends) (λ c κs. search header-ends) returns)

@@ -7,7 +7,4 @@ returns : tie.Need-returns
 returns c = search version-ends
 
 pub read-header-spec : {M : Type 1} → statement M
-read-header-spec =
-    tie.close
-    (tie.spec
-    (λ c. search version-ends) (λ c κs. search version-ends) (λ c κs. search version-ends) returns)
+read-header-spec = tie.close (tie.spec (λ c κs. search version-ends) (λ c κs. search version-ends) returns)
