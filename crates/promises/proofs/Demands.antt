@@ -10,6 +10,7 @@ use lib.IntN.{pos}
 use lib.ListN.{length}
 use lib.Ieee as Ieee
 use Rattle.types.specs.Counters.{noPlaces}
+use Rattle.types.specs.Ways.{unnamedWay}
 use Rattle.types.specs.declared.Way.{Way}
 use Rattle.types.specs.declared.Way.the-variants as W
 use Rattle.types.specs.declared.Place.{Place}
@@ -55,6 +56,7 @@ use Rattle.promises.specs.Runs.{RunRow}
 use Rattle.promises.specs.Placed.{Stands, between, earlier, moved, Chain, anyWay, exactly, Each, Level, Ahead}
 use Rattle.promises.specs.Values.{Value, written, roomFor, ReadBack}
 use Rattle.promises.specs.Deliveries.{CheckRow, writtenAll, meantAll, AllStorable, AllWritable}
+use Rattle.promises.specs.Migration.{AtomChanges, HeaderChanges, SignatureChanges}
 use Rattle.promises.proofs.Demand1 as Demand1
 use Rattle.promises.proofs.Entries as Entries
 use Rattle.promises.proofs.Runs as Runs
@@ -62,6 +64,7 @@ use Rattle.promises.proofs.Stands as Stands
 use Rattle.promises.proofs.Alone as Alone
 use Rattle.promises.proofs.Demand2 as Demand2
 use Rattle.promises.proofs.Deliveries as Deliveries
+use Rattle.promises.proofs.Migration as Migration
 use Rattle.promises.proofs.IntegerCasts as IntegerCasts
 use Rattle.promises.proofs.Integrals as Integrals
 use Rattle.promises.proofs.FloatCasts as FloatCasts
@@ -381,3 +384,20 @@ pub shortest-writes : {s : List ℕ} {atoms : List (List ℕ)} →
     AllWritable (meanings atoms) →
     (vs : List Value) × (writtenAll vs ≡ atoms)
 shortest-writes = Deliveries.accepted-written
+
+-- EXACT READING IS THE DEFAULT (document 02, K4): the entry that names no way reads exactly, strings lent.
+pub default-way : unnamedWay ≡ W.ExactLent
+default-way = refl
+
+-- WHAT CHANGES FOR AN IMPORTER: where exact reading reads, filled reading reads the same; where filled reading reads and
+-- exact refuses, it is by 4, and the source ends within that atom. So of an atom,
+pub default-atom : (s : List ℕ) (place : ℕ) (budget : Budget) (scratch : List ℕ) → AtomChanges s place budget scratch
+default-atom = Migration.atom-changes
+
+-- of its header,
+pub default-header : (s : List ℕ) (place : ℕ) → HeaderChanges s place
+default-header = Migration.header-changes
+
+-- and of a signature.
+pub default-signature : (s : List ℕ) (place : ℕ) → SignatureChanges s place
+default-signature = Migration.signature-changes

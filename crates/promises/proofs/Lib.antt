@@ -37,5 +37,6 @@ pub mod Integrals
 pub mod FloatCasts
 pub mod Demand2
 pub mod Deliveries
+pub mod Migration
 pub mod Demands
 pub mod Starred

@@ -6,10 +6,10 @@ use mathlib.Core.Bool.{Bool, true, false, false≢true}
 use mathlib.Core.List.{List, [], _∷_}
 use Prim.Native.Nat.{ℕ, _+_, _-_, _≤_, _<_}
 use native.Mathlib.Omega.{arith}
-use lib.Dec.{leb}
+use lib.Dec.{ltb, leb}
 use lib.ListN.{length, take, drop, length-drop}
 use lib.Seq.{take-all, length-take-le}
-use borrow.Author.Tests.{lt-ltb, leb-true, leb-false}
+use borrow.Author.Tests.{ltb-false, leb-true, leb-false}
 use Rattle.types.specs.Choice.{pick}
 use Rattle.types.specs.Ways.{exact}
 use Rattle.types.specs.Counters.{placeIn}
@@ -49,8 +49,12 @@ use Rattle.promises.specs.Placed.{between, heldBy, Stands, Chain, ends, 
 use Rattle.promises.specs.Placed.{none, one, more}
 
 -- a place past the end counts as the end
-past-end : (n place : ℕ) → n < place → placeIn n place ≡ n
-past-end n place h = simp (lt-ltb n place h)
+pub past-end : (n place : ℕ) → n ≤ place → placeIn n place ≡ n
+past-end n place h = by (ltb n place) refl
+  where
+    by : (t : Bool) → ltb n place ≡ t → pick t n place ≡ n
+    by true e = refl
+    by false e = let most = ltb-false n place e in omega arith
 
 -- WHAT AN ATOM THAT WAS READ CARRIES, past its header: the header's kind and argument, where its body starts, a body as
 -- long as they say, as far as the source goes, and what that holds
@@ -127,7 +131,7 @@ module _ (way : Way) (s : List ℕ) (arg : ℕ) (first next : Place) (scratch : 
               its-body = refl;
               long =
                   sym (ap (λ (m : ℕ). placeIn (length s) (next .0 + m)) c
-                  ∙ past-end (length s) (next .0 + count) out);
+                  ∙ past-end (length s) (next .0 + count) (omega arith));
               holds =
                   ap (λ (m : ℕ). n .nucleus m (fromLE (take count (drop (next .0) s)))) (sym c)
                   ∙ ap (λ (l : List ℕ). n .nucleus (bodyLength (n .kind) arg) (fromLE l))

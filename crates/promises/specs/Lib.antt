@@ -8,3 +8,4 @@ pub mod Values
 pub mod Runs
 pub mod Placed
 pub mod Deliveries
+pub mod Migration

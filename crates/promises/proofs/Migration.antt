@@ -1,0 +1,192 @@
+-- What changes for a program that named no way: the laws of `promises.Migration`. They rest on what the two ways differ
+-- in, `atom.Agree.atom-differ` and `header.Ways`; that what is read exactly is whole is demand 1's, and where an atom
+-- ends that was read filled is `Stands`.
+use mathlib.Core.Path.{_≡_, refl, _∙_, sym, ap}
+use mathlib.Core.Bool.{Bool, true, false, false≢true}
+use mathlib.Core.Logic.{_⊎_, inl, inr, ⊎-elim}
+use mathlib.Core.List.{List}
+use Prim.Native.Nat.{ℕ, _+_, _≤_, _<_}
+use native.Mathlib.Omega.{arith}
+use lib.Dec.{leb}
+use lib.ListN.{length}
+use borrow.Author.Tests.{leb-true, leb-false}
+use Rattle.types.specs.Choice.{pick}
+use Rattle.types.specs.Counters.{placeIn}
+use Rattle.types.specs.Forms.{bodyLength, isString}
+use Rattle.types.specs.Ways.{Differ, same, cut}
+use Rattle.types.specs.declared.Way.the-variants as W
+use Rattle.types.specs.declared.Kind.{Kind}
+use Rattle.types.specs.declared.Place.{Place}
+use Rattle.types.specs.declared.Budget.{Budget}
+use Rattle.types.specs.declared.Atom.{Atom}
+use Rattle.types.specs.declared.Refusal.{Refusal}
+use Rattle.types.specs.declared.Refusal.the-variants as R
+use Rattle.types.specs.declared.HeaderAnswer.{HeaderAnswer}
+use Rattle.types.specs.declared.HeaderAnswer.the-variants as H
+use Rattle.types.specs.declared.VersionAnswer.{VersionAnswer}
+use Rattle.types.specs.declared.VersionAnswer.the-variants as VA
+use Rattle.types.specs.declared.AtomAnswer.{AtomAnswer}
+use Rattle.types.specs.declared.AtomAnswer.the-variants as A
+use Rattle.types.proofs.Ways.{differ-reads, differ-cut}
+use Rattle.types.proofs.Counters.{place-same}
+use Rattle.header.specs.Header.{headerRead, headerFrom, headerKind, headerArgument}
+use Rattle.header.specs.Signature.{versionRead, versionFrom, judged, everyBit, signature, bigEndian}
+use Rattle.header.proofs.Ways.{header-differ, version-differ}
+use Rattle.atom.specs.Atoms.{atomRead}
+use Rattle.atom.proofs.Agree.{Ended, atom-differ, exact-then-filled}
+use Rattle.promises.specs.Told.{toldAtom}
+use Rattle.promises.specs.Rows.{endOf}
+use Rattle.promises.specs.Entries.{onward, headerEnd}
+use Rattle.promises.specs.Placed.{Stands}
+use Rattle.promises.specs.Migration.{atomEnd, signatureEnd, AtomChanges, HeaderChanges, SignatureChanges}
+use Rattle.promises.proofs.Stands.{past-end}
+use Rattle.promises.proofs.Stands as Stands
+use Rattle.promises.proofs.Demand1 as Demand1
+
+-- A HEADER THAT IS READ FILLED: what its bytes say, up to where it ends, or to the source's end
+module _ (s : List ℕ) (place : ℕ) where
+  filled-by : (t : Bool) (end : ℕ) (kind : Kind) (arg : ℕ) → leb end (length s) ≡ t →
+      pick t (H.Read (record { 0 = end }) kind arg) (H.Read (record { 0 = length s }) kind arg)
+      ≡ H.Read (record { 0 = placeIn (length s) end }) kind arg
+  filled-by true end kind arg h = rw (place-same (length s) end (leb-true end (length s) h)) refl
+  filled-by false end kind arg h =
+      let out = leb-false end (length s) h in rw (past-end (length s) end (omega arith)) refl
+
+  pub header-filled :
+      headerRead W.Filled s place
+      ≡ H.Read (record { 0 = placeIn (length s) (headerEnd s place) }) (headerKind (onward s place))
+      (headerArgument (onward s place))
+  unfolding headerFrom
+  header-filled = filled-by (leb (headerEnd s place) (length s)) (headerEnd s place) _ _ refl
+
+-- and one that is read exactly: it ends within the source
+module _ (s : List ℕ) (place : ℕ) (next : Place) (kind : Kind) (arg : ℕ) where
+  exact-by : (t : Bool) (end : ℕ) (k : Kind) (a : ℕ) → leb end (length s) ≡ t →
+      pick t (H.Read (record { 0 = end }) k a) (H.Refused (record { 0 = length s }) R.Eof) ≡ H.Read next kind arg →
+      (next .0 ≡ end) × (kind ≡ k) × (arg ≡ a)
+  exact-by true end k a h e = (cc, cc, cc)
+  exact-by false end k a h e = absurd (false≢true cc)
+
+  header-exact : headerRead W.ExactLent s place ≡ H.Read next kind arg →
+      (next .0 ≡ headerEnd s place) × (kind ≡ headerKind (onward s place)) × (arg ≡ headerArgument (onward s place))
+  unfolding headerFrom
+  header-exact = exact-by (leb (headerEnd s place) (length s)) (headerEnd s place) _ _ refl
+
+-- what goes on past the source's end is at the end
+at-end : (n header body : ℕ) (t : Bool) → leb header n ≡ t → n < header + body →
+    placeIn n (placeIn n header + body) ≡ n
+at-end n header body true h past =
+    rw (place-same n header (leb-true header n h)) (past-end n (header + body) (omega arith))
+at-end n header body false h past =
+    let out = leb-false header n h in
+    rw (past-end n header (omega arith)) (past-end n (n + body) (omega arith))
+
+-- AN ATOM
+module _ (s : List ℕ) (place : ℕ) (budget : Budget) (scratch : List ℕ) where
+  -- read filled, and cut: the place after it is the source's end
+  filled-end : (after : Place) (left : Budget) (atom : Atom) →
+      atomRead W.Filled s place budget scratch ≡ A.Read after left atom → length s < atomEnd s place → after ≡ endOf s
+  filled-end after left atom e past =
+      let st : Stands W.Filled s place after atom = Stands.stands W.Filled s place budget scratch after left atom e in
+      let read = sym (header-filled s place) ∙ st .at-body in
+      let header = headerEnd s place in
+      let body = bodyLength (headerKind (onward s place)) (headerArgument (onward s place)) in
+      let ends : placeIn (length s) (placeIn (length s) header + body) ≡ length s =
+      at-end (length s) header body (leb header (length s)) refl past
+      in
+      let long = st .body-long in
+      let same-place = st .at-after in
+      cc
+
+  cut-by : {after stop : Place} {left rest : Budget} {atom : Atom} {why : Refusal} →
+      atomRead W.Filled s place budget scratch ≡ A.Read after left atom →
+      atomRead W.ExactLent s place budget scratch ≡ A.Refused stop rest why →
+      (why ≡ R.Eof) × (length s < atomEnd s place) × (stop ≡ endOf s) × (after ≡ endOf s)
+  cut-by {after} {stop} {left} {rest} {atom} {why} f e =
+      let d = differ-cut (Ended s) (atom-differ s place budget scratch) (λ like. false≢true cc) in
+      let ended = d .0 .1 in
+      (cc, d .1, cc, filled-end after left atom f (d .1))
+
+  -- read exactly: it ends within the source
+  exact-whole : (after : Place) (left : Budget) (atom : Atom) →
+      atomRead W.ExactLent s place budget scratch ≡ A.Read after left atom → atomEnd s place ≤ length s
+  exact-whole after left atom e =
+      let row = Demand1.by-the-table W.ExactLent s place budget scratch in
+      let found = Demand1.good-row row (ap (λ (a : AtomAnswer). toldAtom a .number) e) in
+      let next = found .0 in
+      let kind = found .1 .0 in
+      let arg = found .1 .1 .0 in
+      let h = header-exact s place next kind arg (found .1 .1 .1 .0) in
+      let body : next .0 + bodyLength kind arg ≤ length s =
+      ⊎-elim (λ there. there) (λ never. absurd (can-end (isString kind) never)) (found .1 .1 .1 .1 .body-there)
+      in
+      let where-from : next .0 + bodyLength kind arg ≡ atomEnd s place = cc (h .0, h .1 .0, h .1 .1) in
+      omega arith
+    where
+      can-end : (string : Bool) → pick string true true ≡ false → ⊥
+      can-end true e = false≢true (sym e)
+      can-end false e = false≢true (sym e)
+
+  refuses-by : {after : Place} {left : Budget} {atom : Atom} →
+      atomRead W.Filled s place budget scratch ≡ A.Read after left atom → length s < atomEnd s place →
+      Differ (Ended s) (length s) (atomEnd s place) (atomRead W.ExactLent s place budget scratch)
+      (atomRead W.Filled s place budget scratch) →
+      Ended s (atomRead W.ExactLent s place budget scratch)
+  refuses-by {after} {left} {atom} f past (same like) =
+      let whole = exact-whole after left atom (like ∙ f) in absurd (omega arith)
+  refuses-by f past (cut ended within) = ended
+
+  still-by : {stop : Place} {left : Budget} {why : Refusal} →
+      Differ (Ended s) (length s) (atomEnd s place) (atomRead W.ExactLent s place budget scratch)
+      (atomRead W.Filled s place budget scratch) →
+      atomRead W.Filled s place budget scratch ≡ A.Refused stop left why →
+      (atomRead W.ExactLent s place budget scratch ≡ A.Refused stop left why)
+      ⊎ ((rest : Budget) × (atomRead W.ExactLent s place budget scratch ≡ A.Refused (endOf s) rest R.Eof)
+      × (length s < atomEnd s place))
+  still-by (same like) f = inl (like ∙ f)
+  still-by (cut (rest, e) past) f = inr (rest, e, past)
+
+  pub atom-changes : AtomChanges s place budget scratch
+  atom-changes = record {
+    reads = λ e. exact-then-filled s place budget scratch _ _ _ e;
+    cut = cut-by;
+    refuses = λ f past. refuses-by f past (atom-differ s place budget scratch);
+    still = still-by (atom-differ s place budget scratch);
+  }
+
+-- A HEADER, AND A SIGNATURE: each is taken up to an end
+module _ (s : List ℕ) (place : ℕ) where
+  pub header-changes : HeaderChanges s place
+  header-changes = record {
+    reads = λ e. differ-reads _ (header-differ s place) _ (λ ended. false≢true cc) e;
+    cut = λ e.
+        let f = header-filled s place in
+        let d = differ-cut _ (header-differ s place) (λ like. false≢true cc) in
+        let ended = d .0 in
+        (cc, d .1, cc);
+  }
+
+  version-end : (after : Place) (version : ℕ) → length s < signatureEnd s place →
+      versionRead W.Filled s place ≡ VA.Read after version → after ≡ endOf s
+  unfolding versionFrom
+  version-end after version past e = by (leb (signatureEnd s place) (length s)) refl e
+    where
+      taken : (t : Bool) (p : Place) (word : ℕ) →
+          pick t (VA.Read p word) (VA.Refused p R.IncompatibleVersion) ≡ VA.Read after version → after ≡ p
+      taken true p word f = cc
+      taken false p word f = absurd (false≢true cc)
+
+      by : (t : Bool) → leb (signatureEnd s place) (length s) ≡ t →
+          pick t (judged (bigEndian (onward s place)) (record { 0 = signatureEnd s place }))
+          (judged (bigEndian (onward s place)) (endOf s)) ≡ VA.Read after version → after ≡ endOf s
+      by true h f = let whole = leb-true (signatureEnd s place) (length s) h in absurd (omega arith)
+      by false h f = taken (everyBit 32 signature (bigEndian (onward s place))) (endOf s) _ f
+
+  pub signature-changes : SignatureChanges s place
+  signature-changes = record {
+    reads = λ e. differ-reads _ (version-differ s place) _ (λ ended. false≢true cc) e;
+    cut = λ {after} {stop} {version} {why} f e.
+        let d = differ-cut _ (version-differ s place) (λ like. false≢true cc) in
+        let ended = d .0 in
+        (cc, d .1, cc, version-end after version (d .1) f);
+  }
