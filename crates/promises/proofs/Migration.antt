@@ -31,6 +31,7 @@ use Rattle.types.proofs.Ways.{differ-reads, differ-cut}
 use Rattle.types.proofs.Counters.{place-same}
 use Rattle.header.specs.Header.{headerRead, headerFrom, headerKind, headerArgument}
 use Rattle.header.specs.Signature.{versionRead, versionFrom, judged, everyBit, signature, bigEndian}
+use Rattle.header.proofs.Places.{headerPlace}
 use Rattle.header.proofs.Ways.{header-differ, version-differ}
 use Rattle.atom.specs.Atoms.{atomRead}
 use Rattle.atom.proofs.Agree.{Ended, atom-differ, exact-then-filled}
@@ -89,14 +90,19 @@ module _ (s : List ℕ) (place : ℕ) (budget : Budget) (scratch : List ℕ) whe
   filled-end after left atom e past =
       let st : Stands W.Filled s place after atom = Stands.stands W.Filled s place budget scratch after left atom e in
       let read = sym (header-filled s place) ∙ st .at-body in
-      let header = headerEnd s place in
-      let body = bodyLength (headerKind (onward s place)) (headerArgument (onward s place)) in
-      let ends : placeIn (length s) (placeIn (length s) header + body) ≡ length s =
-      at-end (length s) header body (leb header (length s)) refl past
+      let kind = headerKind (onward s place) in
+      let arg = headerArgument (onward s place) in
+      let from : ℕ = placeIn (length s) (headerEnd s place) in
+      let at-body : from ≡ atom .places .body .0 = ap headerPlace read in
+      let its-kind : kind ≡ atom .kind = cc read in
+      let its-argument : arg ≡ atom .arg = cc read in
+      let ends : placeIn (length s) (from + bodyLength kind arg) ≡ length s =
+      at-end (length s) (headerEnd s place) (bodyLength kind arg) (leb (headerEnd s place) (length s)) refl past
       in
-      let long = st .body-long in
-      let same-place = st .at-after in
-      cc
+      let long : atom .places .after .0 ≡ length s =
+      st .body-long ∙ rw (← at-body, ← its-kind, ← its-argument) ends
+      in
+      sym (st .at-after) ∙ ap (λ (n : ℕ). record { 0 = n }) long
 
   cut-by : {after stop : Place} {left rest : Budget} {atom : Atom} {why : Refusal} →
       atomRead W.Filled s place budget scratch ≡ A.Read after left atom →
@@ -114,13 +120,13 @@ module _ (s : List ℕ) (place : ℕ) (budget : Budget) (scratch : List ℕ) whe
       let row = Demand1.by-the-table W.ExactLent s place budget scratch in
       let found = Demand1.good-row row (ap (λ (a : AtomAnswer). toldAtom a .number) e) in
       let next = found .0 in
-      let kind = found .1 .0 in
-      let arg = found .1 .1 .0 in
-      let h = header-exact s place next kind arg (found .1 .1 .1 .0) in
+      let kind = found .1 in
+      let arg = found .2 in
+      let h = header-exact s place next kind arg (found .3) in
       let body : next .0 + bodyLength kind arg ≤ length s =
-      ⊎-elim (λ there. there) (λ never. absurd (can-end (isString kind) never)) (found .1 .1 .1 .1 .body-there)
+      ⊎-elim (λ there. there) (λ never. absurd (can-end (isString kind) never)) (found .4 .body-there)
       in
-      let where-from : next .0 + bodyLength kind arg ≡ atomEnd s place = cc (h .0, h .1 .0, h .1 .1) in
+      let where-from : next .0 + bodyLength kind arg ≡ atomEnd s place = cc (h .0, h .1, h .2) in
       omega arith
     where
       can-end : (string : Bool) → pick string true true ≡ false → ⊥
