@@ -56,7 +56,7 @@ use Rattle.promises.specs.Runs.{RunRow}
 use Rattle.promises.specs.Placed.{Stands, between, earlier, moved, Chain, anyWay, exactly, Each, Level, Ahead}
 use Rattle.promises.specs.Values.{Value, written, roomFor, ReadBack}
 use Rattle.promises.specs.Deliveries.{CheckRow, writtenAll, meantAll, AllStorable, AllWritable}
-use Rattle.promises.specs.Migration.{AtomChanges, HeaderChanges, SignatureChanges}
+use Rattle.promises.specs.Migration.{AtomChanges, HeaderChanges, SignatureChanges, TrimmedReads}
 use Rattle.promises.proofs.Demand1 as Demand1
 use Rattle.promises.proofs.Entries as Entries
 use Rattle.promises.proofs.Runs as Runs
@@ -65,6 +65,7 @@ use Rattle.promises.proofs.Alone as Alone
 use Rattle.promises.proofs.Demand2 as Demand2
 use Rattle.promises.proofs.Deliveries as Deliveries
 use Rattle.promises.proofs.Migration as Migration
+use Rattle.promises.proofs.Trimmed as Trimmed
 use Rattle.promises.proofs.IntegerCasts as IntegerCasts
 use Rattle.promises.proofs.Integrals as Integrals
 use Rattle.promises.proofs.FloatCasts as FloatCasts
@@ -401,3 +402,8 @@ default-header = Migration.header-changes
 -- and of a signature.
 pub default-signature : (s : List ℕ) (place : ℕ) → SignatureChanges s place
 default-signature = Migration.signature-changes
+
+-- WHY IT NAMES FILLED READING: what exact reading reads of a file, filled reading reads of what is left of it when zeros
+-- at its end were trimmed; a string has to be whole in what is left.
+pub default-trimmed : (s : List ℕ) (zeros place : ℕ) → place ≤ length s → TrimmedReads s zeros place
+default-trimmed = Trimmed.trimmed-reads

@@ -38,5 +38,6 @@ pub mod FloatCasts
 pub mod Demand2
 pub mod Deliveries
 pub mod Migration
+pub mod Trimmed
 pub mod Demands
 pub mod Starred

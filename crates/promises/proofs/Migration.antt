@@ -68,7 +68,7 @@ module _ (s : List ℕ) (place : ℕ) (next : Place) (kind : Kind) (arg : ℕ) w
   exact-by true end k a h e = (cc, cc, cc)
   exact-by false end k a h e = absurd (false≢true cc)
 
-  header-exact : headerRead W.ExactLent s place ≡ H.Read next kind arg →
+  pub header-exact : headerRead W.ExactLent s place ≡ H.Read next kind arg →
       (next .0 ≡ headerEnd s place) × (kind ≡ headerKind (onward s place)) × (arg ≡ headerArgument (onward s place))
   unfolding headerFrom
   header-exact = exact-by (leb (headerEnd s place) (length s)) (headerEnd s place) _ _ refl

@@ -2,12 +2,14 @@
 -- way now reads exactly, strings lent. Our importer of old floppy dictionaries depends on filled reading, because its
 -- tool trimmed trailing zeros; it must name that way from now on." So: where exact reading reads, filled reading reads
 -- the same; where filled reading reads and exact refuses, it is by 4, and the source ends within what is read.
-use Prim.Native.Nat.{ℕ, _+_, _<_}
+use Prim.Native.Nat.{ℕ, _+_, _≤_, _<_}
 use mathlib.Core.Path.{_≡_}
 use mathlib.Core.Logic.{_⊎_}
-use mathlib.Core.List.{List}
-use lib.ListN.{length}
-use Rattle.types.specs.Forms.{bodyLength}
+use mathlib.Core.Bool.{true}
+use mathlib.Core.List.{List, _++_}
+use lib.ListN.{length, replicate}
+use Rattle.types.specs.Counters.{placeIn, placesOf}
+use Rattle.types.specs.Forms.{bodyLength, isString}
 use Rattle.types.specs.declared.Way.the-variants as W
 use Rattle.types.specs.declared.Kind.{Kind}
 use Rattle.types.specs.declared.Place.{Place}
@@ -21,7 +23,7 @@ use Rattle.types.specs.declared.AtomAnswer.the-variants as A
 use Rattle.header.specs.Header.{headerRead, headerKind, headerArgument}
 use Rattle.header.specs.Signature.{versionRead}
 use Rattle.reader.specs.Strings.{startOf}
-use Rattle.atom.specs.Atoms.{atomRead}
+use Rattle.atom.specs.Atoms.{atomOf, atomRead}
 use Rattle.promises.specs.Rows.{endOf}
 use Rattle.promises.specs.Entries.{onward, headerEnd}
 
@@ -75,3 +77,24 @@ pub record SignatureChanges (s : List ℕ) (place : ℕ) : Type 0 where
       versionRead W.Filled s place ≡ VA.Read after version →
       versionRead W.ExactLent s place ≡ VA.Refused stop why →
       (why ≡ R.Eof) × (length s < signatureEnd s place) × (stop ≡ endOf s) × (after ≡ endOf s)
+
+-- WHY AN IMPORTER NAMES FILLED READING, "because its tool trimmed trailing zeros": of a file that was trimmed, `s`, what
+-- is left of a place in the whole one, and of an atom there: all but its places
+abbrev pub leftOf : List ℕ → Place → Place
+leftOf s p = record { 0 = placeIn (length s) (p .0) }
+
+abbrev pub leftAtom : List ℕ → Atom → Atom
+leftAtom s x =
+    atomOf (x .kind) (x .arg)
+    (placesOf (leftOf s (x .places .first)) (leftOf s (x .places .body)) (leftOf s (x .places .after))) (x .nucleus)
+
+-- what exact reading reads of the whole file, filled reading reads of what is left: an atom, unless it is a string that
+-- lost bytes, and a signature
+pub record TrimmedReads (s : List ℕ) (zeros place : ℕ) : Type 0 where
+  pub an-atom : (budget : Budget) (scratch : List ℕ) {after : Place} {left : Budget} {atom : Atom} →
+      atomRead W.ExactLent (s ++ replicate zeros 0) place budget scratch ≡ A.Read after left atom →
+      (isString (atom .kind) ≡ true → after .0 ≤ length s) →
+      atomRead W.Filled s place budget scratch ≡ A.Read (leftOf s after) left (leftAtom s atom)
+  pub a-signature : {after : Place} {version : ℕ} →
+      versionRead W.ExactLent (s ++ replicate zeros 0) place ≡ VA.Read after version →
+      versionRead W.Filled s place ≡ VA.Read (leftOf s after) version
