@@ -1,6 +1,6 @@
 -- What the two ways of reading an atom differ in: where exact reading takes it, filled reading gives the same atom,
 -- place and budget; else the source ends within it. And where exact reading takes an atom, it takes a byte at least.
-use mathlib.Core.Path.{_≡_, refl, _∙_, sym, ap}
+use mathlib.Core.Path.{_≡_, refl, ap}
 use mathlib.Core.Bool.{Bool, true, false, false≢true}
 use mathlib.Core.List.{List}
 use Prim.Native.Nat.{ℕ, _+_, _≤_, _<_}

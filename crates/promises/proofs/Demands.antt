@@ -390,9 +390,10 @@ shortest-writes = Deliveries.accepted-written
 pub default-way : unnamedWay ≡ W.ExactLent
 default-way = refl
 
--- WHAT CHANGES FOR AN IMPORTER: where exact reading reads, filled reading reads the same; where filled reading reads and
--- exact refuses, it is by 4, and the source ends within that atom. So of an atom,
-pub default-atom : (s : List ℕ) (place : ℕ) (budget : Budget) (scratch : List ℕ) → AtomChanges s place budget scratch
+-- WHAT CHANGES FOR AN IMPORTER: where exact reading reads, filled reading reads the same; where filled reading reads
+-- and exact refuses, it is by 4, and the source ends within that atom. So of an atom,
+pub default-atom : (s : List ℕ) (place : ℕ) (budget : Budget) (scratch : List ℕ) →
+    AtomChanges s place budget scratch
 default-atom = Migration.atom-changes
 
 -- of its header,
@@ -403,7 +404,7 @@ default-header = Migration.header-changes
 pub default-signature : (s : List ℕ) (place : ℕ) → SignatureChanges s place
 default-signature = Migration.signature-changes
 
--- WHY IT NAMES FILLED READING: what exact reading reads of a file, filled reading reads of what is left of it when zeros
--- at its end were trimmed; a string has to be whole in what is left.
+-- WHY IT NAMES FILLED READING: what exact reading reads of a file, filled reading reads of what is left of it when
+-- zeros at its end were trimmed; a string has to be whole in what is left.
 pub default-trimmed : (s : List ℕ) (zeros place : ℕ) → place ≤ length s → TrimmedReads s zeros place
 default-trimmed = Trimmed.trimmed-reads

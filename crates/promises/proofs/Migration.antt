@@ -5,15 +5,15 @@ use mathlib.Core.Path.{_≡_, refl, _∙_, sym, ap}
 use mathlib.Core.Bool.{Bool, true, false, false≢true}
 use mathlib.Core.Logic.{_⊎_, inl, inr, ⊎-elim}
 use mathlib.Core.List.{List}
-use Prim.Native.Nat.{ℕ, _+_, _≤_, _<_}
+use Prim.Native.Nat.{ℕ, _+_, _%_, _≤_, _<_}
 use native.Mathlib.Omega.{arith}
-use lib.Dec.{leb}
+use lib.Dec.{ltb, leb}
 use lib.ListN.{length}
-use borrow.Author.Tests.{leb-true, leb-false}
+use borrow.Author.Tests.{ltb-true, leb-true, leb-false}
 use Rattle.types.specs.Choice.{pick}
 use Rattle.types.specs.Counters.{placeIn}
 use Rattle.types.specs.Forms.{bodyLength, isString}
-use Rattle.types.specs.Ways.{Differ, same, cut}
+use Rattle.types.specs.Ways.{upTo, Differ, same, cut}
 use Rattle.types.specs.declared.Way.the-variants as W
 use Rattle.types.specs.declared.Kind.{Kind}
 use Rattle.types.specs.declared.Place.{Place}
@@ -21,9 +21,7 @@ use Rattle.types.specs.declared.Budget.{Budget}
 use Rattle.types.specs.declared.Atom.{Atom}
 use Rattle.types.specs.declared.Refusal.{Refusal}
 use Rattle.types.specs.declared.Refusal.the-variants as R
-use Rattle.types.specs.declared.HeaderAnswer.{HeaderAnswer}
 use Rattle.types.specs.declared.HeaderAnswer.the-variants as H
-use Rattle.types.specs.declared.VersionAnswer.{VersionAnswer}
 use Rattle.types.specs.declared.VersionAnswer.the-variants as VA
 use Rattle.types.specs.declared.AtomAnswer.{AtomAnswer}
 use Rattle.types.specs.declared.AtomAnswer.the-variants as A
@@ -44,23 +42,37 @@ use Rattle.promises.proofs.Stands.{past-end}
 use Rattle.promises.proofs.Stands as Stands
 use Rattle.promises.proofs.Demand1 as Demand1
 
--- A HEADER THAT IS READ FILLED: what its bytes say, up to where it ends, or to the source's end
-module _ (s : List ℕ) (place : ℕ) where
-  filled-by : (t : Bool) (end : ℕ) (kind : Kind) (arg : ℕ) → leb end (length s) ≡ t →
-      pick t (H.Read (record { 0 = end }) kind arg) (H.Read (record { 0 = length s }) kind arg)
-      ≡ H.Read (record { 0 = placeIn (length s) end }) kind arg
-  filled-by true end kind arg h = rw (place-same (length s) end (leb-true end (length s) h)) refl
-  filled-by false end kind arg h =
-      let out = leb-false end (length s) h in rw (past-end (length s) end (omega arith)) refl
+-- WHAT IS TAKEN FILLED is taken up to its end, or to the source's end if that is past it
+pub up-to-left : {X : Type 0} (n end : ℕ) (taken : ℕ → X) (eof : X) → upTo W.Filled n end taken eof ≡ taken (placeIn n end)
+up-to-left n end taken eof = by (leb end n) refl
+  where
+    by : (t : Bool) → leb end n ≡ t → pick t (taken end) (taken n) ≡ taken (placeIn n end)
+    by true h = ap taken (sym (place-same n end (leb-true end n h)))
+    by false h = let out = leb-false end n h in ap taken (sym (past-end n end (omega arith)))
 
+-- what goes on from there goes on from the end
+pub place-again : (n place more : ℕ) → placeIn n (placeIn n place + more) ≡ placeIn n (place + more)
+place-again n place more = by (ltb n place) refl
+  where
+    by : (t : Bool) → ltb n place ≡ t → placeIn n (pick t n place + more) ≡ placeIn n (place + more)
+    by true h =
+        let past = ltb-true n place h in
+        past-end n (n + more) (omega arith) ∙ sym (past-end n (place + more) (omega arith))
+    by false h = refl
+
+-- A HEADER THAT IS READ FILLED: what its bytes say, up to where it ends
+module _ (s : List ℕ) (place : ℕ) where
   pub header-filled :
       headerRead W.Filled s place
       ≡ H.Read (record { 0 = placeIn (length s) (headerEnd s place) }) (headerKind (onward s place))
       (headerArgument (onward s place))
   unfolding headerFrom
-  header-filled = filled-by (leb (headerEnd s place) (length s)) (headerEnd s place) _ _ refl
+  header-filled =
+      up-to-left (length s) (headerEnd s place)
+      (λ p. H.Read (record { 0 = p }) (headerKind (onward s place)) (headerArgument (onward s place)))
+      (H.Refused (endOf s) R.Eof)
 
--- and one that is read exactly: it ends within the source
+-- and one that is read exactly: the same, up to its own end
 module _ (s : List ℕ) (place : ℕ) (next : Place) (kind : Kind) (arg : ℕ) where
   exact-by : (t : Bool) (end : ℕ) (k : Kind) (a : ℕ) → leb end (length s) ≡ t →
       pick t (H.Read (record { 0 = end }) k a) (H.Refused (record { 0 = length s }) R.Eof) ≡ H.Read next kind arg →
@@ -72,15 +84,6 @@ module _ (s : List ℕ) (place : ℕ) (next : Place) (kind : Kind) (arg : ℕ) w
       (next .0 ≡ headerEnd s place) × (kind ≡ headerKind (onward s place)) × (arg ≡ headerArgument (onward s place))
   unfolding headerFrom
   header-exact = exact-by (leb (headerEnd s place) (length s)) (headerEnd s place) _ _ refl
-
--- what goes on past the source's end is at the end
-at-end : (n header body : ℕ) (t : Bool) → leb header n ≡ t → n < header + body →
-    placeIn n (placeIn n header + body) ≡ n
-at-end n header body true h past =
-    rw (place-same n header (leb-true header n h)) (past-end n (header + body) (omega arith))
-at-end n header body false h past =
-    let out = leb-false header n h in
-    rw (past-end n header (omega arith)) (past-end n (n + body) (omega arith))
 
 -- AN ATOM
 module _ (s : List ℕ) (place : ℕ) (budget : Budget) (scratch : List ℕ) where
@@ -97,7 +100,8 @@ module _ (s : List ℕ) (place : ℕ) (budget : Budget) (scratch : List ℕ) whe
       let its-kind : kind ≡ atom .kind = cc read in
       let its-argument : arg ≡ atom .arg = cc read in
       let ends : placeIn (length s) (from + bodyLength kind arg) ≡ length s =
-      at-end (length s) (headerEnd s place) (bodyLength kind arg) (leb (headerEnd s place) (length s)) refl past
+      place-again (length s) (headerEnd s place) (bodyLength kind arg)
+      ∙ past-end (length s) (atomEnd s place) (omega arith)
       in
       let long : atom .places .after .0 ≡ length s =
       st .body-long ∙ rw (← at-body, ← its-kind, ← its-argument) ends
@@ -175,18 +179,18 @@ module _ (s : List ℕ) (place : ℕ) where
   version-end : (after : Place) (version : ℕ) → length s < signatureEnd s place →
       versionRead W.Filled s place ≡ VA.Read after version → after ≡ endOf s
   unfolding versionFrom
-  version-end after version past e = by (leb (signatureEnd s place) (length s)) refl e
+  version-end after version past e =
+      let word = bigEndian (onward s place) in
+      let filled =
+      up-to-left (length s) (signatureEnd s place) (λ p. judged word (record { 0 = p })) (VA.Refused (endOf s) R.Eof)
+      in
+      let at : placeIn (length s) (signatureEnd s place) ≡ length s = past-end (length s) _ (omega arith) in
+      taken (everyBit 32 signature word) (endOf s) (word % 256) (rw at at (sym filled ∙ e))
     where
-      taken : (t : Bool) (p : Place) (word : ℕ) →
-          pick t (VA.Read p word) (VA.Refused p R.IncompatibleVersion) ≡ VA.Read after version → after ≡ p
-      taken true p word f = cc
-      taken false p word f = absurd (false≢true cc)
-
-      by : (t : Bool) → leb (signatureEnd s place) (length s) ≡ t →
-          pick t (judged (bigEndian (onward s place)) (record { 0 = signatureEnd s place }))
-          (judged (bigEndian (onward s place)) (endOf s)) ≡ VA.Read after version → after ≡ endOf s
-      by true h f = let whole = leb-true (signatureEnd s place) (length s) h in absurd (omega arith)
-      by false h f = taken (everyBit 32 signature (bigEndian (onward s place))) (endOf s) _ f
+      taken : (t : Bool) (p : Place) (low : ℕ) →
+          pick t (VA.Read p low) (VA.Refused p R.IncompatibleVersion) ≡ VA.Read after version → after ≡ p
+      taken true p low f = cc
+      taken false p low f = absurd (false≢true cc)
 
   pub signature-changes : SignatureChanges s place
   signature-changes = record {

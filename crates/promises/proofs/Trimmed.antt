@@ -7,9 +7,9 @@ use Prim.Native.Nat.{ℕ, zero, suc, _+_, _%_, _≤_}
 use native.Mathlib.Omega.{arith}
 use lib.Dec.{ltb, leb}
 use lib.ListN.{length, drop, replicate, drop-of-length-le, length-append}
-use borrow.Author.Tests.{ltb-true, ltb-false, leb-true, leb-false, le-leb, le-ltb}
+use borrow.Author.Tests.{ltb-true, ltb-false}
 use Rattle.types.specs.Choice.{pick}
-use Rattle.types.specs.Counters.{placeIn, placesOf}
+use Rattle.types.specs.Counters.{placeIn}
 use Rattle.types.specs.Forms.{known, bodyLength, chargeOf, isString, unknown}
 use Rattle.types.specs.declared.Way.the-variants as W
 use Rattle.types.specs.declared.Kind.{Kind}
@@ -29,13 +29,13 @@ use Rattle.types.specs.declared.BudgetAnswer.the-variants as BA
 use Rattle.types.specs.declared.AtomAnswer.{AtomAnswer}
 use Rattle.types.specs.declared.AtomAnswer.the-variants as A
 use Rattle.types.proofs.Counters.{place-same}
-use Rattle.header.specs.Header.{headerRead, headerFrom, headerKind, headerArgument, headerLength}
+use Rattle.header.specs.Header.{headerRead, headerKind, headerArgument, headerLength}
 use Rattle.header.specs.Signature.{versionRead, versionFrom, judged, bigEndian, everyBit, signature}
 use Rattle.header.proofs.Places.{headerPlace, header-place}
 use Rattle.header.proofs.Zeros.{kind-zeros, argument-zeros, length-zeros}
 use Rattle.reader.specs.Strings.{startOf, lentMark}
 use Rattle.reader.proofs.Strings.{start-within, start-same, lent-read, lent-eof}
-use Rattle.little.specs.Le.{fromLE, numberAt}
+use Rattle.little.specs.Le.{numberAt}
 use Rattle.little.proofs.Zeros.{byte-zeros, number-zeros}
 use Rattle.atom.specs.Charges.{budgetAfter}
 use Rattle.atom.specs.Atoms.{atomRead, atomFrom, atomTaken, bytesAtom, bytesTaken, bodyTaken, charged}
@@ -44,8 +44,7 @@ use Rattle.atom.proofs.Forward.{atomPlace}
 use Rattle.atom.proofs.Numbers.{NumberForm, integers, floats, numberTaken, integer-taken, float-taken}
 use Rattle.promises.specs.Entries.{onward, headerEnd}
 use Rattle.promises.specs.Migration.{leftOf, leftAtom, TrimmedReads}
-use Rattle.promises.proofs.Stands.{past-end}
-use Rattle.promises.proofs.Migration.{header-filled, header-exact}
+use Rattle.promises.proofs.Migration.{up-to-left, place-again, header-filled, header-exact}
 
 -- the bytes from a place on, with zeros after them
 onward-zeros : (s : List ℕ) (zeros place : ℕ) → place ≤ length s →
@@ -62,20 +61,6 @@ bits-left count s place true h =
     let past = ltb-true (length s) place h in
     rw (drop-of-length-le s {i = length s} (omega arith), drop-of-length-le s {i = place} (omega arith)) refl
 bits-left count s place false h = refl
-
--- where it ends
-end-left : (n next count : ℕ) (t u : Bool) → ltb n next ≡ t → leb (pick t n next + count) n ≡ u →
-    pick u (pick t n next + count) n ≡ placeIn n (next + count)
-end-left n next count true true h k =
-    let past = ltb-true n next h in
-    let whole = leb-true (n + count) n k in
-    let same : n + count ≡ n = omega arith in
-    same ∙ sym (past-end n (next + count) (omega arith))
-end-left n next count true false h k =
-    let past = ltb-true n next h in sym (past-end n (next + count) (omega arith))
-end-left n next count false true h k = sym (place-same n (next + count) (leb-true (next + count) n k))
-end-left n next count false false h k =
-    let out = leb-false (next + count) n k in sym (past-end n (next + count) (omega arith))
 
 -- what is left of an answer
 abbrev trimmed : List ℕ → AtomAnswer → AtomAnswer
@@ -108,11 +93,6 @@ module _ (s : List ℕ) (zeros : ℕ) (scratch : List ℕ) (arg : ℕ) (first ne
       ap (λ (f : Place). atomTaken kind arg f (leftOf s next) rest (leftOf s next) nucleus) same-first
 
   -- a number: the bytes that it lost are zeros
-  chosen : (n : NumberForm) (u : Bool) (a b bits : ℕ) →
-      pick u (built n first a bits) (built n first b bits) ≡ built n first (pick u a b) bits
-  chosen n true a b bits = refl
-  chosen n false a b bits = refl
-
   number-left : (n : NumberForm) →
       numberTaken n W.Filled s arg first (leftOf s next) rest
       ≡ trimmed s
@@ -125,14 +105,11 @@ module _ (s : List ℕ) (zeros : ℕ) (scratch : List ℕ) (arg : ℕ) (first ne
       let end = placeIn (length s) (next .0 + count) in
       let bits = numberAt count s from-end in
       let all = numberAt count (s ++ replicate zeros 0) (next .0) in
-      let same-end : pick (leb (from-end + count) (length s)) (from-end + count) (length s) ≡ end =
-      end-left (length s) (next .0) count (ltb (length s) (next .0)) _ refl refl
-      in
       let same-bits : bits ≡ all =
       bits-left count s (next .0) (ltb (length s) (next .0)) refl ∙ sym (number-zeros count s zeros (next .0))
       in
-      chosen n (leb (from-end + count) (length s)) (from-end + count) (length s) bits
-      ∙ ap (λ (e : ℕ). built n first e bits) same-end
+      up-to-left (length s) (from-end + count) (λ e. built n first e bits) (A.Refused (record { 0 = length s }) rest R.Eof)
+      ∙ ap (λ (e : ℕ). built n first e bits) (place-again (length s) (next .0) count)
       ∙ ap (λ (b : ℕ). built n first end b) same-bits
       ∙ ap (λ (f : Place). built n f end all) same-first
 
@@ -293,20 +270,14 @@ module _ (s : List ℕ) (zeros place : ℕ) (within : place ≤ length s) where
       taken true f = cc
       taken false f = absurd (false≢true cc)
 
-  signature-by : (t : Bool) (end : ℕ) (word : ℕ) → leb end (length s) ≡ t →
-      pick t (judged word (record { 0 = end })) (judged word (record { 0 = length s }))
-      ≡ judged word (leftOf s (record { 0 = end }))
-  signature-by true end word h = rw (place-same (length s) end (leb-true end (length s) h)) refl
-  signature-by false end word h =
-      let out = leb-false end (length s) h in rw (past-end (length s) end (omega arith)) refl
-
   signature-trimmed : (after : Place) (version : ℕ) →
       versionRead W.ExactLent (s ++ replicate zeros 0) place ≡ VA.Read after version →
       versionRead W.Filled s place ≡ VA.Read (leftOf s after) version
   unfolding versionFrom
   signature-trimmed after version e =
       rw start-left
-      (signature-by (leb (place + 4) (length s)) (place + 4) (bigEndian (drop place s)) refl
+      (up-to-left (length s) (place + 4) (λ p. judged (bigEndian (drop place s)) (record { 0 = p }))
+      (VA.Refused (record { 0 = length s }) R.Eof)
       ∙ judged-left (leb (place + 4) (length (s ++ replicate zeros 0))) (place + 4) (bigEndian (drop place s)) after
       version (rw (start-all, word-left) at e))
 

@@ -78,8 +78,8 @@ pub record SignatureChanges (s : List ℕ) (place : ℕ) : Type 0 where
       versionRead W.ExactLent s place ≡ VA.Refused stop why →
       (why ≡ R.Eof) × (length s < signatureEnd s place) × (stop ≡ endOf s) × (after ≡ endOf s)
 
--- WHY AN IMPORTER NAMES FILLED READING, "because its tool trimmed trailing zeros": of a file that was trimmed, `s`, what
--- is left of a place in the whole one, and of an atom there: all but its places
+-- WHY AN IMPORTER NAMES FILLED READING, "because its tool trimmed trailing zeros": of a file that was trimmed, `s`,
+-- what is left of a place in the whole one, and of an atom there: all but its places
 abbrev pub leftOf : List ℕ → Place → Place
 leftOf s p = record { 0 = placeIn (length s) (p .0) }
 
