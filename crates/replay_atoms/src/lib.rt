@@ -1,5 +1,6 @@
 // The requests about an atom and the budget, answered from the proved functions: 20, 27 and 28 of oracle/FORMAT.md.
 // Test machinery: proved is that every request is taken and every answer ends.
+use replay_wire::Asked;
 use replay_wire::Cursor;
 use replay_wire::Reply;
 use types::Atom;
@@ -59,6 +60,17 @@ pub fn put_answer(out: &mut [u8], reply: Reply, answer: AtomAnswer, scratch: &[u
     }
 }
 
+// Reads an atom as the request asks. Where it names no way, the entry that names none is asked, so that this entry
+// itself is compared: it has no scratch, and would show if it filled or copied.
+fn asked_atom(source: &[u8], asked: Asked, budget: Budget, scratch: &mut [u8]) -> AtomAnswer {
+    let place = asked.place;
+    let way = asked.way;
+    if asked.named {
+        return atom::read_atom_by(source, place, budget, scratch, way);
+    }
+    atom::read_atom(source, place, budget)
+}
+
 fn read_atom(
     text: &[u8],
     cursor: Cursor,
@@ -67,13 +79,11 @@ fn read_atom(
     out: &mut [u8],
 ) -> Reply {
     let budget = replay_wire::read_word(text, cursor);
-    let asked = replay_wire::read_source(text, budget.cursor, bytes);
+    let asked = replay_wire::read_any_source(text, budget.cursor, bytes);
     let reply = replay_wire::begin(text, asked.cursor);
     let count = asked.count;
-    let place = asked.place;
-    let way = asked.way;
     let given = Budget(budget.value);
-    let answer = atom::read_atom_by(&bytes[0..count], place, given, scratch, way);
+    let answer = asked_atom(&bytes[0..count], asked, given, scratch);
     put_answer(out, reply, answer, scratch)
 }
 

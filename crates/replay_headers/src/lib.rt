@@ -1,5 +1,6 @@
 // The requests about codes, headers and signatures, answered from the proved functions: 1, 2 and 10 to 13 of
 // oracle/FORMAT.md. Test machinery: proved is that every request is taken and every answer ends.
+use replay_wire::Asked;
 use replay_wire::Cursor;
 use replay_wire::Reply;
 use types::HeaderAnswer;
@@ -37,13 +38,32 @@ fn special_try_from(text: &[u8], cursor: Cursor, out: &mut [u8]) -> Reply {
     }
 }
 
-fn read_atom_header(text: &[u8], cursor: Cursor, source: &mut [u8], out: &mut [u8]) -> Reply {
-    let asked = replay_wire::read_source(text, cursor, source);
-    let reply = replay_wire::begin(text, asked.cursor);
-    let count = asked.count;
+// Reads an atom header as the request asks. Where it names no way, the entry that names none is asked, so that this
+// entry itself is compared.
+fn asked_header(source: &[u8], asked: Asked) -> HeaderAnswer {
     let place = asked.place;
     let way = asked.way;
-    match header::read_atom_header_by(&source[0..count], place, way) {
+    if asked.named {
+        return header::read_atom_header_by(source, place, way);
+    }
+    header::read_atom_header(source, place)
+}
+
+// Reads a signature likewise.
+fn asked_version(source: &[u8], asked: Asked) -> VersionAnswer {
+    let place = asked.place;
+    let way = asked.way;
+    if asked.named {
+        return header::read_header_by(source, place, way);
+    }
+    header::read_header(source, place)
+}
+
+fn read_atom_header(text: &[u8], cursor: Cursor, source: &mut [u8], out: &mut [u8]) -> Reply {
+    let asked = replay_wire::read_any_source(text, cursor, source);
+    let reply = replay_wire::begin(text, asked.cursor);
+    let count = asked.count;
+    match asked_header(&source[0..count], asked) {
         HeaderAnswer::Read(place, kind, arg) => {
             let placed = replay_wire::taken_at(out, reply, place);
             let put = replay_wire::put_kind(out, placed, kind);
@@ -56,12 +76,10 @@ fn read_atom_header(text: &[u8], cursor: Cursor, source: &mut [u8], out: &mut [u
 }
 
 fn read_header(text: &[u8], cursor: Cursor, source: &mut [u8], out: &mut [u8]) -> Reply {
-    let asked = replay_wire::read_source(text, cursor, source);
+    let asked = replay_wire::read_any_source(text, cursor, source);
     let reply = replay_wire::begin(text, asked.cursor);
     let count = asked.count;
-    let place = asked.place;
-    let way = asked.way;
-    match header::read_header_by(&source[0..count], place, way) {
+    match asked_version(&source[0..count], asked) {
         VersionAnswer::Read(place, version) => {
             let placed = replay_wire::taken_at(out, reply, place);
             return replay_wire::put_word(out, placed, version as u64);

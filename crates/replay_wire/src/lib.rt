@@ -34,6 +34,7 @@ pub use values::put_places;
 pub use values::put_string;
 pub use values::put_truth;
 pub use values::put_written;
+pub use values::read_any_source;
 pub use values::read_byte;
 pub use values::read_kind;
 pub use values::read_source;

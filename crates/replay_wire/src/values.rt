@@ -30,9 +30,10 @@ pub struct KindField {
     pub kind: Kind,
 }
 
-// A way, a place and a source, whose bytes are the first of a buffer.
+// A way, a place and a source, whose bytes are the first of a buffer. Where no way is named, `way` says nothing.
 pub struct Asked {
     pub cursor: Cursor,
+    pub named: bool,
     pub way: Way,
     pub place: Place,
     pub count: usize,
@@ -71,7 +72,7 @@ pub fn read_kind(text: &[u8], cursor: Cursor) -> KindField {
     }
 }
 
-// The way of a code, which is below 3.
+// The way of a code below 3; 3 names none.
 fn way_of(code: u64) -> Way {
     match code {
         0 => Way::Filled,
@@ -80,8 +81,8 @@ fn way_of(code: u64) -> Way {
     }
 }
 
-// Reads a way, a place and a source.
-pub fn read_source(text: &[u8], cursor: Cursor, source: &mut [u8]) -> Asked
+// Reads a way by one of the first so many codes, a place and a source.
+fn read_coded(text: &[u8], cursor: Cursor, source: &mut [u8], codes: u64) -> Asked
     ensures { λ r. ⌜ r .count ≤ length (now (source .exit)) ⌝ }
 {
     let way = read_word(text, cursor);
@@ -91,12 +92,27 @@ pub fn read_source(text: &[u8], cursor: Cursor, source: &mut [u8]) -> Asked
     Asked {
         cursor: Cursor {
             at: next.at,
-            good: next.good && way.value < 3,
+            good: next.good && way.value < codes,
         },
+        named: way.value < 3,
         way: way_of(way.value),
         place: Place(place.value as usize),
         count: decoded.count,
     }
+}
+
+// Reads a way, a place and a source.
+pub fn read_source(text: &[u8], cursor: Cursor, source: &mut [u8]) -> Asked
+    ensures { λ r. ⌜ r .count ≤ length (now (source .exit)) ⌝ }
+{
+    read_coded(text, cursor, source, 3)
+}
+
+// The same for an entry that also stands without a way, which the request need not name then.
+pub fn read_any_source(text: &[u8], cursor: Cursor, source: &mut [u8]) -> Asked
+    ensures { λ r. ⌜ r .count ≤ length (now (source .exit)) ⌝ }
+{
+    read_coded(text, cursor, source, 4)
 }
 
 // Puts a kind by its code.

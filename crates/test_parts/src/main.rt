@@ -1,15 +1,18 @@
-// Runs `reader::as_slice`, and the read of an atom that names no way. Each line written is the part that a mark says,
-// in brackets, or an atom's three places. What the program is held to was worked out from document 01's text apart from
-// it: "`as_slice` hands back a part of the source or of the scratch, as the delivery mark says; a mark reaching past
-// the slice it names gives the empty part at that slice's end", and "The entry that names no way is filled"; and from
-// K1's: "its first place, the place where its body starts and the place after it".
+// Runs `reader::as_slice`, and the read of an atom that names no way, beside filled reading and exact reading that
+// copies, which are named. Each line written is the part that a mark says, in brackets, or an atom's three places, or a
+// refusal's number with the place and the budget after it. What the program is held to was worked out from the
+// documents' text apart from it. Document 01: "`as_slice` hands back a part of the source or of the scratch, as the
+// delivery mark says; a mark reaching past the slice it names gives the empty part at that slice's end", "a header byte
+// or number byte past the end reads as zero and the place stops at the end", and of refusal 4 "end of slice; charged if
+// a body was being read". K1: "its first place, the place where its body starts and the place after it". K4: "The entry
+// that names no way now reads exactly, strings lent".
 use libc::STDOUT_FILENO;
+use types::Atom;
 use types::AtomAnswer;
 use types::Budget;
 use types::Mark;
 use types::Nucleus;
 use types::Place;
-use types::Places;
 use types::Way;
 
 // Writes a part.
@@ -27,27 +30,23 @@ fn put_both<'a>(source: &'a [u8], scratch: &'a [u8], start: usize, len: usize) {
     put_part(reader::as_slice(source, scratch, Mark { start, len, lent }));
 }
 
-// Writes an atom's places.
-fn put_places(places: Places) {
-    let first = places.first;
-    let body = places.body;
-    let after = places.after;
-    io::print_decimal(STDOUT_FILENO, first.0 as u64);
+// Writes three numbers.
+fn put_three(first: u64, second: u64, third: u64) {
+    io::print_decimal(STDOUT_FILENO, first);
     io::write_all(STDOUT_FILENO, b" ");
-    io::print_decimal(STDOUT_FILENO, body.0 as u64);
+    io::print_decimal(STDOUT_FILENO, second);
     io::write_all(STDOUT_FILENO, b" ");
-    io::print_decimal(STDOUT_FILENO, after.0 as u64);
+    io::print_decimal(STDOUT_FILENO, third);
     io::write_all(STDOUT_FILENO, b"\n");
 }
 
-// Writes the places and the string of an answer, or what else it is.
-fn put_string<'a>(source: &'a [u8], scratch: &'a [u8], answer: AtomAnswer) {
-    let AtomAnswer::Read(_, _, atom) = answer else {
-        io::write_all(STDOUT_FILENO, b"refused\n");
-        return;
-    };
+// Writes an atom's places, and the string that it is, or that it is none.
+fn put_atom<'a>(source: &'a [u8], scratch: &'a [u8], atom: Atom) {
     let places = atom.places;
-    put_places(places);
+    let first = places.first;
+    let body = places.body;
+    let after = places.after;
+    put_three(first.0 as u64, body.0 as u64, after.0 as u64);
     let nucleus = atom.nucleus;
     let Nucleus::Bytes(mark) = nucleus else {
         io::write_all(STDOUT_FILENO, b"no string\n");
@@ -56,13 +55,26 @@ fn put_string<'a>(source: &'a [u8], scratch: &'a [u8], answer: AtomAnswer) {
     put_part(reader::as_slice(source, scratch, mark));
 }
 
-// Reads the atom at a place by the entry that names no way, and copied into a scratch, which is written too. Of the
-// string all is there, then a sequence, and then a number without its last byte.
+// Writes the atom of an answer, or its refusal.
+fn put_answer<'a>(source: &'a [u8], scratch: &'a [u8], answer: AtomAnswer) {
+    match answer {
+        AtomAnswer::Read(_, _, atom) => put_atom(source, scratch, atom),
+        AtomAnswer::Refused(place, budget, refusal) => {
+            io::write_all(STDOUT_FILENO, b"refused ");
+            put_three(refusal.number(), place.0 as u64, budget.0);
+        }
+    }
+}
+
+// Reads the atom at a place by the entry that names no way, filled, and copied into a scratch, which is written too. Of
+// the string all is there; then come a sequence, a number without its last byte, and the end.
 fn put_read(place: usize) {
     let source = b"\xE3abc\x83\x41\x2C";
     let mut scratch = [0x2Du8; 8];
     let answer = atom::read_atom(source, Place(place), Budget(8));
-    put_string(source, &scratch, answer);
+    put_answer(source, &scratch, answer);
+    let filled = atom::read_atom_by(source, Place(place), Budget(8), &mut scratch, Way::Filled);
+    put_answer(source, &scratch, filled);
     let copied = atom::read_atom_by(
         source,
         Place(place),
@@ -70,7 +82,7 @@ fn put_read(place: usize) {
         &mut scratch,
         Way::ExactCopied,
     );
-    put_string(source, &scratch, copied);
+    put_answer(source, &scratch, copied);
     put_part(&scratch);
 }
 
@@ -87,4 +99,5 @@ fn main() {
     put_read(0);
     put_read(4);
     put_read(5);
+    put_read(7);
 }

@@ -16,7 +16,7 @@ impl Oracle {
         }
         match reading.way {
             Way::Filled => self.read(&mut filled(&reading), request, &reading),
-            Way::ExactLent | Way::ExactCopied => self.read(&mut exact(&reading), request, &reading),
+            Way::ExactLent | Way::ExactCopied | Way::Unnamed => self.read(&mut exact(&reading), request, &reading),
         }
     }
 
@@ -158,7 +158,7 @@ fn told_text<'a>(bytes: &BufferedBytes<'_>, scratch: &'a [u8], place: u64, readi
             let start = part.as_ptr() as usize - reading.source.as_ptr() as usize;
             Text::Lent(start as u64, length as u64)
         }
-        (BufferedBytes::Scratch, Way::ExactLent) => {
+        (BufferedBytes::Scratch, Way::ExactLent | Way::Unnamed) => {
             let start = size(place) - length;
             assert_eq!(bytes.as_slice(scratch), &reading.source[start..start + length]);
             Text::Lent(start as u64, length as u64)

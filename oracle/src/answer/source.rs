@@ -56,7 +56,7 @@ pub fn read_placed<'a>(
 fn past_header(reading: &Reading<'_>) -> u64 {
     match reading.way {
         Way::Filled => past_header_of(filled(reading), reading),
-        Way::ExactLent | Way::ExactCopied => past_header_of(exact(reading), reading),
+        Way::ExactLent | Way::ExactCopied | Way::Unnamed => past_header_of(exact(reading), reading),
     }
 }
 

@@ -35,7 +35,7 @@ impl Drawer {
 
     fn reader(&mut self, code: u8) -> Request<'_> {
         let random = &mut self.random;
-        let way = *random.pick(&Way::ALL);
+        let way = *random.pick(Way::of(code));
         let before = random.index(4) * random.index(2);
         random.fill(&mut self.bytes, before);
         let kind = kind_for(random, code);

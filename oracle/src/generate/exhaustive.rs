@@ -194,16 +194,18 @@ fn stored_integer(sink: &mut Sink<impl Write>, Integer { variant, bits }: Intege
     Ok(())
 }
 
-/// All 65,536 binary16 patterns: read both ways and checked, and the same values and the patterns beside them written,
-/// cast and checked.
+/// All 65,536 binary16 patterns: read both ways, as an atom also by no named way, and checked, and the same values and
+/// the patterns beside them written, cast and checked.
 fn halves(sink: &mut Sink<impl Write>) -> io::Result<()> {
     for bits in 0..=u16::MAX {
         let source = bits.to_le_bytes();
+        let atom = [0x61, source[0], source[1]];
         for way in READERS {
             sink.put(&Request::FloatReadFrom(3, 2, start(way, &source)))?;
-            sink.put(&Request::ReadAtom(2, start(way, &[0x61, source[0], source[1]])))?;
+            sink.put(&Request::ReadAtom(2, start(way, &atom)))?;
         }
-        sink.put(&Request::Check(&[0x61, source[0], source[1]]))?;
+        sink.put(&Request::ReadAtom(2, start(Way::Unnamed, &atom)))?;
+        sink.put(&Request::Check(&atom))?;
         let single = edges::widened(bits);
         for beside in [single.wrapping_sub(1), single + 1] {
             sink.put(&Request::WriteF32(beside))?;

@@ -5,16 +5,28 @@ use super::number::{single, value_of, Float, Integer, Variant, Writer};
 use super::sequence::HeldReads;
 use super::words::{put_bytes, put_wide, put_word, Malformed, Words};
 
-/// The way of reading. The original has the first and the last.
+/// The way of reading. The original has the first and the third.
 #[derive(Debug, Clone, Copy, PartialEq, Eq)]
 pub enum Way {
     Filled,
     ExactLent,
     ExactCopied,
+    /// No way is named. Document 02, K4: such an entry reads exactly, strings lent.
+    Unnamed,
 }
 
 impl Way {
-    pub const ALL: [Self; 3] = [Self::Filled, Self::ExactLent, Self::ExactCopied];
+    pub const ALL: [Self; 4] = [Self::Filled, Self::ExactLent, Self::ExactCopied, Self::Unnamed];
+    pub const NAMED: [Self; 3] = [Self::Filled, Self::ExactLent, Self::ExactCopied];
+
+    /// The ways that a request of this code may have: three entries also stand without a way.
+    #[must_use]
+    pub const fn of(code: u8) -> &'static [Self] {
+        match code {
+            code::READ_ATOM_HEADER | code::READ_HEADER | code::READ_ATOM => &Self::ALL,
+            _ => &Self::NAMED,
+        }
+    }
 }
 
 /// What a reader is given: a way, a place and a source.
@@ -26,8 +38,9 @@ pub struct Reading<'a> {
 }
 
 impl<'a> Reading<'a> {
-    fn parse(words: &mut Words<'_>, buffer: &'a mut Vec<u8>) -> Result<Self, Malformed> {
-        let way = Way::ALL[usize::from(words.below(3)?)];
+    fn parse(code: u8, words: &mut Words<'_>, buffer: &'a mut Vec<u8>) -> Result<Self, Malformed> {
+        let ways = Way::of(code);
+        let way = ways[usize::from(words.below(ways.len() as u64)?)];
         let place = words.word()?;
         let source = words.bytes(buffer)?;
         Ok(Self { way, place, source })
@@ -121,8 +134,8 @@ impl<'a> Request<'a> {
         Ok(match code {
             code::KIND_FROM_U8 => Self::KindFromU8(words.below(0x100)?),
             code::SPECIAL_TRY_FROM => Self::SpecialTryFrom(words.word()?),
-            code::READ_ATOM_HEADER => Self::ReadAtomHeader(Reading::parse(words, buffer)?),
-            code::READ_HEADER => Self::ReadHeader(Reading::parse(words, buffer)?),
+            code::READ_ATOM_HEADER => Self::ReadAtomHeader(Reading::parse(code, words, buffer)?),
+            code::READ_HEADER => Self::ReadHeader(Reading::parse(code, words, buffer)?),
             code::WRITE_ATOM_HEADER => Self::WriteAtomHeader(words.below(8)?, words.word()?),
             code::WRITE_HEADER => Self::WriteHeader(words.below(0x100)?),
             _ => return Err(UNKNOWN_CODE),
@@ -131,17 +144,17 @@ impl<'a> Request<'a> {
 
     fn parse_reader(code: u8, words: &mut Words<'_>, buffer: &'a mut Vec<u8>) -> Result<Self, Malformed> {
         Ok(match code {
-            code::READ_ATOM => Self::ReadAtom(words.word()?, Reading::parse(words, buffer)?),
+            code::READ_ATOM => Self::ReadAtom(words.word()?, Reading::parse(code, words, buffer)?),
             code::INTEGER_READ_FROM => {
-                Self::IntegerReadFrom(words.below(8)?, words.word()?, Reading::parse(words, buffer)?)
+                Self::IntegerReadFrom(words.below(8)?, words.word()?, Reading::parse(code, words, buffer)?)
             }
             code::FLOAT_READ_FROM => {
-                Self::FloatReadFrom(words.below(8)?, words.word()?, Reading::parse(words, buffer)?)
+                Self::FloatReadFrom(words.below(8)?, words.word()?, Reading::parse(code, words, buffer)?)
             }
-            code::BUFFERED_READ_BYTES => Self::BufferedReadBytes(words.word()?, Reading::parse(words, buffer)?),
-            code::READ => Self::Read(words.word()?, Reading::parse(words, buffer)?),
-            code::READ_EXACT => Self::ReadExact(words.word()?, Reading::parse(words, buffer)?),
-            code::REMAINING => Self::Remaining(Reading::parse(words, buffer)?),
+            code::BUFFERED_READ_BYTES => Self::BufferedReadBytes(words.word()?, Reading::parse(code, words, buffer)?),
+            code::READ => Self::Read(words.word()?, Reading::parse(code, words, buffer)?),
+            code::READ_EXACT => Self::ReadExact(words.word()?, Reading::parse(code, words, buffer)?),
+            code::REMAINING => Self::Remaining(Reading::parse(code, words, buffer)?),
             code::UPDATE_BUDGET => Self::UpdateBudget(words.word()?, words.word()?),
             code::IN_MEMORY_INT_SIZE => Self::InMemoryIntSize(words.word()?),
             code::RUN => Self::Run(words.word()?, words.bytes(buffer)?),
