@@ -75,12 +75,12 @@ static uint64_t print_file(const uint8_t *source, size_t length)
 {
     uint64_t words[POT_WORDS];
     size_t start = 0;
-    uint64_t refusal = pot_read_header_exact(source, length, 0, words, POT_WORDS);
+    uint64_t refusal = pot_read_header(source, length, 0, words, POT_WORDS);
     if (!refusal)
         printf("version %" PRIu64 "\n", words[1]);
     while (!refusal && words[0] < length) {
         start = words[0];
-        refusal = pot_read_atom_exact(source, length, start, UINT64_MAX, words, POT_WORDS);
+        refusal = pot_read_atom(source, length, start, UINT64_MAX, words, POT_WORDS);
         if (!refusal)
             print_atom(source, words);
     }

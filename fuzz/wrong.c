@@ -1,5 +1,5 @@
-/* Exports that break what a lender is promised, say wrong places or letters, or accept what is not in shortest form; each is
- * tried alone by self-check. */
+/* Exports that break what a lender is promised, say wrong places or letters, accept what is not in shortest form, or read by
+ * another way than theirs; each is tried alone by self-check. */
 #include "dimewagon.h"
 
 #ifdef WRONG_write_none
@@ -23,12 +23,42 @@ uint64_t pot_f32_as_f64(uint32_t bits, uint64_t *words, size_t words_len) {
 #endif
 
 #ifdef WRONG_read_header
-uint64_t right_read_header(const uint8_t *source, size_t source_len, size_t place, uint64_t *words, size_t words_len);
+/* Takes the bytes past the end as zeros, as it once did. */
+uint64_t pot_read_header(const uint8_t *source, size_t source_len, size_t place, uint64_t *words, size_t words_len) {
+    return pot_read_header_filled(source, source_len, place, words, words_len);
+}
+#endif
+
+#ifdef WRONG_read_header_filled
+uint64_t right_read_header_filled(const uint8_t *source, size_t source_len, size_t place, uint64_t *words,
+                                  size_t words_len);
 
 /* Reads the byte past the source. */
-uint64_t pot_read_header(const uint8_t *source, size_t source_len, size_t place, uint64_t *words, size_t words_len) {
+uint64_t pot_read_header_filled(const uint8_t *source, size_t source_len, size_t place, uint64_t *words,
+                                size_t words_len) {
     (void)*(const volatile uint8_t *)(source + source_len);
-    return right_read_header(source, source_len, place, words, words_len);
+    return right_read_header_filled(source, source_len, place, words, words_len);
+}
+#endif
+
+#ifdef WRONG_read_atom
+/* Takes the bytes past the end as zeros, as it once did. */
+uint64_t pot_read_atom(const uint8_t *source, size_t source_len, size_t place, uint64_t budget, uint64_t *words,
+                       size_t words_len) {
+    return pot_read_atom_filled(source, source_len, place, budget, words, words_len);
+}
+#endif
+
+#ifdef WRONG_read_atom_filled
+uint64_t right_read_atom_filled(const uint8_t *source, size_t source_len, size_t place, uint64_t budget, uint64_t *words,
+                                size_t words_len);
+
+/* Refuses a number that is cut, as exact reading does. */
+uint64_t pot_read_atom_filled(const uint8_t *source, size_t source_len, size_t place, uint64_t budget, uint64_t *words,
+                              size_t words_len) {
+    uint64_t number = right_read_atom_filled(source, source_len, place, budget, words, words_len);
+    if (number != 0 || words_len < POT_WORDS || words[2] < POT_INT || words[2] > POT_FLOAT) return number;
+    return pot_read_atom_exact(source, source_len, place, budget, words, words_len);
 }
 #endif
 

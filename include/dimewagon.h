@@ -1,9 +1,9 @@
 /* Dimewagon: the atoms of dictionary files, read, written and cast.
  *
  *     uint64_t words[POT_WORDS];
- *     uint64_t refusal = pot_read_header_exact(file, length, 0, words, POT_WORDS);
+ *     uint64_t refusal = pot_read_header(file, length, 0, words, POT_WORDS);
  *     while (!refusal && words[0] < length)
- *         refusal = pot_read_atom_exact(file, length, words[0], UINT64_MAX, words, POT_WORDS);
+ *         refusal = pot_read_atom(file, length, words[0], UINT64_MAX, words, POT_WORDS);
  *
  * Every function answers a number and writes twelve words. The number is 0, or the refusal's. All twelve are written by
  * every call, with zeros where nothing is said, except that an array of fewer is refused by 9 and nothing is done. What
@@ -16,6 +16,11 @@
  *
  * A program compiled when there were eight words hands over arrays of eight, which are refused by 9: size its arrays by
  * POT_WORDS and compile it again. Words 0 to 7 mean what they meant.
+ *
+ * A program compiled when pot_read_header and pot_read_atom took bytes past the end as zeros still links, and now has
+ * refusal 4 where it had those zeros. If its files are old ones whose trailing zeros were trimmed, let it call
+ * pot_read_header_filled and pot_read_atom_filled, which do what those two did, and compile it again. No other function
+ * does anything else than it did.
  *
  * A slice is a pointer and a length. Of length 0 the pointer may dangle, but it must not be null; the data() of an empty
  * std::vector may be null. Slices that are written to must not overlap others. A place counts bytes from the source's start,
@@ -87,16 +92,21 @@ enum {
 /* The variants of an integer. */
 enum { POT_I8, POT_I16, POT_I32, POT_I64, POT_I128, POT_U8, POT_U16, POT_U32, POT_U64, POT_U128 };
 
-/* Reads the signature of a file at a place. Words: place after, version. The first takes bytes past the end as zeros; the
- * second refuses them. */
+/* Reads the signature of a file at a place. Words: place after, version. The first names no way and reads exactly, as
+ * the third does: bytes past the end are refused. The second takes them as zeros: it is for an old file whose trailing
+ * zeros were trimmed, and it cannot tell such a file from one that was cut. */
 uint64_t pot_read_header(const uint8_t *source, size_t source_len, size_t place, uint64_t *words, size_t words_len);
+uint64_t pot_read_header_filled(const uint8_t *source, size_t source_len, size_t place, uint64_t *words, size_t words_len);
 uint64_t pot_read_header_exact(const uint8_t *source, size_t source_len, size_t place, uint64_t *words, size_t words_len);
 
 /* Reads one atom at a place, with a budget for what its value takes in memory. Words: place after, budget left; then
- * kind, argument, what it holds, its three words and its places; or the refusal's data. The first takes number and
- * header bytes past the end as zeros, so that an atom at the end has the end for all its places; the others refuse
- * them. The third copies a string into the scratch; the others answer where it is in the source. */
+ * kind, argument, what it holds, its three words and its places; or the refusal's data. The first names no way and
+ * reads exactly, as the third does: bytes past the end are refused, and a string is answered by where it is in the
+ * source. The second takes header and number bytes past the end as zeros, so that an atom at the end has the end for
+ * all its places and a loop must stop by the place; it is for an old file whose trailing zeros were trimmed, and it
+ * cannot tell such a file from one that was cut. The fourth reads exactly and copies a string into the scratch. */
 uint64_t pot_read_atom(const uint8_t *source, size_t source_len, size_t place, uint64_t budget, uint64_t *words, size_t words_len);
+uint64_t pot_read_atom_filled(const uint8_t *source, size_t source_len, size_t place, uint64_t budget, uint64_t *words, size_t words_len);
 uint64_t pot_read_atom_exact(const uint8_t *source, size_t source_len, size_t place, uint64_t budget, uint64_t *words, size_t words_len);
 uint64_t pot_read_atom_copied(const uint8_t *source, size_t source_len, size_t place, uint64_t budget, uint8_t *scratch, size_t scratch_len, uint64_t *words, size_t words_len);
 

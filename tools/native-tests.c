@@ -47,8 +47,8 @@ static void expect(int line, uint64_t number, uint64_t wanted, const uint64_t *s
     } while (0)
 #define EXPECT(number, wanted, ...) EXPECT_AT(0, 0, 0, number, wanted, __VA_ARGS__)
 
-/* One atom, exactly, with a budget of 16. */
-#define ATOM(string) pot_read_atom_exact((const uint8_t *)string, sizeof string - 1, 0, 16, words, POT_WORDS)
+/* One atom, by the function that names no way, with a budget of 16. */
+#define ATOM(string) pot_read_atom((const uint8_t *)string, sizeof string - 1, 0, 16, words, POT_WORDS)
 
 static void atoms(void)
 {
@@ -69,7 +69,8 @@ static void atoms(void)
 }
 
 /* The functions that read one atom, over the first bytes of the source, from a place, with a budget of 9. */
-#define FILLED(length, place) pot_read_atom(source, length, place, 9, words, POT_WORDS)
+#define UNNAMED(length, place) pot_read_atom(source, length, place, 9, words, POT_WORDS)
+#define FILLED(length, place) pot_read_atom_filled(source, length, place, 9, words, POT_WORDS)
 #define EXACT(length, place) pot_read_atom_exact(source, length, place, 9, words, POT_WORDS)
 #define COPIED(length, place) pot_read_atom_copied(source, length, place, 9, scratch, sizeof scratch, words, POT_WORDS)
 #define SKIP(length, place) pot_skip_atom(source, length, place, 9, words, POT_WORDS)
@@ -77,10 +78,12 @@ static void atoms(void)
 static void places_of_an_atom(void)
 {
     uint8_t scratch[2] = {9, 9};
+    EXPECT_AT(1, 3, 5, UNNAMED(8, 1), 0, 5, 7, POT_UINT, 1, POT_INTEGER, POT_U16, 300, 0);
     EXPECT_AT(1, 3, 5, FILLED(8, 1), 0, 5, 7, POT_UINT, 1, POT_INTEGER, POT_U16, 300, 0);
     EXPECT_AT(1, 3, 5, EXACT(8, 1), 0, 5, 7, POT_UINT, 1, POT_INTEGER, POT_U16, 300, 0);
     EXPECT_AT(1, 3, 5, COPIED(8, 1), 0, 5, 7, POT_UINT, 1, POT_INTEGER, POT_U16, 300, 0);
     EXPECT_AT(1, 3, 5, SKIP(8, 1), 0, 5, 7, 3, 0);
+    EXPECT_AT(5, 6, 8, UNNAMED(8, 5), 0, 8, 7, POT_BYTES, 2, POT_STRING, 6, 2, 1);
     EXPECT_AT(5, 6, 8, FILLED(8, 5), 0, 8, 7, POT_BYTES, 2, POT_STRING, 6, 2, 1);
     EXPECT_AT(5, 6, 8, EXACT(8, 5), 0, 8, 7, POT_BYTES, 2, POT_STRING, 6, 2, 1);
     CHECK(memcmp(scratch, "\t\t", 2) == 0);
@@ -88,22 +91,30 @@ static void places_of_an_atom(void)
     CHECK(memcmp(scratch, "ab", 2) == 0);
     EXPECT_AT(5, 6, 8, SKIP(8, 5), 0, 8, 7, 6, 1);
 
-    /* At the end and past it; a number that is cut, and a header. */
+    /* With zeros: at the end and past it; a number that is cut, and a header. */
     EXPECT_AT(8, 8, 8, FILLED(8, 8), 0, 8, 9, POT_SPECIAL, POT_SPECIAL_NONE, POT_NONE);
     EXPECT_AT(8, 8, 8, FILLED(8, SIZE_MAX), 0, 8, 9, POT_SPECIAL, POT_SPECIAL_NONE, POT_NONE);
     EXPECT_AT(1, 3, 4, FILLED(4, 1), 0, 4, 7, POT_UINT, 1, POT_INTEGER, POT_U16, 44, 0);
     EXPECT_AT(1, 2, 2, FILLED(2, 1), 0, 2, 7, POT_UINT, 1, POT_INTEGER, POT_U16, 0, 0);
 
     /* A refused atom has none, and neither has a signature. */
+    EXPECT(UNNAMED(8, 8), POT_EOF, 8, 9);
+    EXPECT(UNNAMED(8, SIZE_MAX), POT_EOF, 8, 9);
     EXPECT(EXACT(8, SIZE_MAX), POT_EOF, 8, 9);
     EXPECT(COPIED(8, 8), POT_EOF, 8, 9);
     EXPECT(SKIP(8, 8), POT_EOF, 8, 9);
     EXPECT(FILLED(7, 5), POT_EOF, 7, 7);
+    EXPECT(UNNAMED(7, 5), POT_EOF, 7, 7);
+    EXPECT(UNNAMED(4, 1), POT_EOF, 4, 7);
+    EXPECT(UNNAMED(2, 1), POT_EOF, 2, 9);
     EXPECT(EXACT(4, 1), POT_EOF, 4, 7);
     EXPECT(COPIED(7, 5), POT_EOF, 7, 7);
     EXPECT(SKIP(7, 5), POT_EOF, 7, 7);
     EXPECT(pot_read_atom_copied(source, 8, 5, 9, scratch, 1, words, POT_WORDS), POT_NO_ROOM, 6, 7);
-    EXPECT(pot_read_header((const uint8_t *)"Pot", 3, 0, words, POT_WORDS), 0, 3, 0);
+    EXPECT(pot_read_header((const uint8_t *)"Pot\x01", 4, 0, words, POT_WORDS), 0, 4, 1);
+    EXPECT(pot_read_header((const uint8_t *)"Pot", 3, 0, words, POT_WORDS), POT_EOF, 3);
+    EXPECT(pot_read_header_filled((const uint8_t *)"Pot\x01", 4, 0, words, POT_WORDS), 0, 4, 1);
+    EXPECT(pot_read_header_filled((const uint8_t *)"Pot", 3, 0, words, POT_WORDS), 0, 3, 0);
     EXPECT(pot_read_header_exact((const uint8_t *)"Pot\x01", 4, 0, words, POT_WORDS), 0, 4, 1);
     EXPECT(pot_read_header_exact((const uint8_t *)"Pot", 3, 0, words, POT_WORDS), POT_EOF, 3);
 }
@@ -169,6 +180,8 @@ static void shortest(void)
 static void refusals(void)
 {
     uint8_t out[4] = {9, 9, 9, 9};
+    EXPECT(pot_read_header((const uint8_t *)"Pox\x01", 4, 0, words, POT_WORDS), POT_INCOMPATIBLE_VERSION, 4);
+    EXPECT(pot_read_header_filled((const uint8_t *)"Po", 2, 0, words, POT_WORDS), POT_INCOMPATIBLE_VERSION, 2);
     EXPECT(pot_read_header_exact((const uint8_t *)"Pox\x01", 4, 0, words, POT_WORDS), POT_INCOMPATIBLE_VERSION, 4);
     EXPECT(pot_write_atom_header(out, 4, 8, 0, words, POT_WORDS), POT_INVALID_KIND, 8);
     EXPECT(ATOM("\x07"), POT_UNKNOWN_SPECIAL, 1, 16, 7);
@@ -207,8 +220,10 @@ static void too_few_words(size_t few)
         CHECK(number == POT_NO_ROOM && kept && memcmp(out, nines, sizeof out) == 0);             \
     } while (0)
     REFUSES(pot_read_header(source, 8, 0, words, few));
+    REFUSES(pot_read_header_filled(source, 8, 0, words, few));
     REFUSES(pot_read_header_exact(source, 8, 0, words, few));
     REFUSES(pot_read_atom(source, 8, 5, 9, words, few));
+    REFUSES(pot_read_atom_filled(source, 8, 5, 9, words, few));
     REFUSES(pot_read_atom_exact(source, 8, 5, 9, words, few));
     REFUSES(pot_read_atom_copied(source, 8, 5, 9, out, sizeof out, words, few));
     REFUSES(pot_skip_atom(source, 8, 5, 9, words, few));

@@ -129,7 +129,7 @@ pub fn write(writer: Writer, text: &[u8], values: &[[u64; 2]], out: &mut [u8]) -
 // The library's own exports, `crates/exports`: each answers 0 or a refusal's number, and twelve words.
 #[cfg(feature = "exports")]
 extern "C" {
-    fn pot_read_atom(
+    fn pot_read_atom_filled(
         source: *const u8,
         source_len: usize,
         place: usize,
@@ -157,11 +157,11 @@ extern "C" {
     ) -> u64;
 }
 
-/// One atom through the exports, by the way that names none.
+/// One atom through the exports, with zeros past the end.
 #[cfg(feature = "exports")]
 pub fn read_one_filled(source: &[u8], place: usize, budget: u64, words: &mut [u64; WORDS]) -> u64 {
     // SAFETY: each pointer comes with the length of its own live slice, and the mutable one is distinct.
-    unsafe { pot_read_atom(source.as_ptr(), source.len(), place, budget, words.as_mut_ptr(), words.len()) }
+    unsafe { pot_read_atom_filled(source.as_ptr(), source.len(), place, budget, words.as_mut_ptr(), words.len()) }
 }
 
 /// One atom exactly, a string lent.

@@ -1,8 +1,6 @@
 //! One call asked of both, and everything that it may change compared.
 
-use oracle::wire::{Reading, Way};
-
-use crate::call::{Call, Room};
+use crate::call::{Call, Entry, Reading, Room};
 use crate::expected::{Judge, Said};
 use crate::ffi::POT_WORDS;
 use crate::lent::Lent;
@@ -24,10 +22,10 @@ impl Checker {
         Self { judge: Judge::new(), source: Lent::new(), bytes: Lent::new(), words: Lent::new() }
     }
 
-    /// Compares one call, and what it wrote is read back by every way and checked.
+    /// Compares one call, and what it wrote is read back by every entry and checked.
     pub fn check(&mut self, call: &Call<'_>, room: Room) {
-        if let Call::Walk(budget, way, source) = *call {
-            return self.walk(budget, way, source, room);
+        if let Call::Walk(budget, entry, source) = *call {
+            return self.walk(budget, entry, source, room);
         }
         let Some(said) = self.compare(call, room) else { return };
         let copied = matches!(call, Call::ReadAtom(..));
@@ -49,8 +47,8 @@ impl Checker {
 
     fn read_back(&mut self, call: &Call<'_>, written: &[u8]) {
         let room = Room { words: POT_WORDS, bytes: written.len() };
-        for way in Way::ALL {
-            let reading = Reading { way, place: 0, source: written };
+        for entry in Entry::ALL {
+            let reading = Reading { entry, place: 0, source: written };
             let read = match call {
                 Call::WriteHeader(_) => Call::ReadHeader(reading),
                 _ => Call::ReadAtom(u64::MAX, reading),
@@ -65,12 +63,12 @@ impl Checker {
 
     /// One atom after another, past refused ones too, until the end or until the place stays. The three places of each
     /// rise or stay level.
-    fn walk(&mut self, mut budget: u64, way: Way, source: &[u8], room: Room) {
+    fn walk(&mut self, mut budget: u64, entry: Entry, source: &[u8], room: Room) {
         let room = Room { words: room.words.max(POT_WORDS), ..room };
         let mut place = 0;
         let mut last = [0; 3];
         for _ in 0..LONGEST_WALK {
-            let call = Call::ReadAtom(budget, Reading { way, place, source });
+            let call = Call::ReadAtom(budget, Reading { entry, place, source });
             let said = self.compare(&call, room).expect("every atom has an answer");
             if said.number == 0 {
                 let level = last.into_iter().zip(said.places()).all(|(old, new)| old <= new);

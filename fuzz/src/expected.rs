@@ -3,10 +3,10 @@
 
 use oracle::answer::{Oracle, RESERVE};
 use oracle::wire::{
-    After, Answer, Answers, Float, Integer, Nucleus, Places, Reading, Refusal, Request, Skip, Text, Value, Variant, Way,
+    After, Answer, Answers, Float, Integer, Nucleus, Places, Refusal, Request, Skip, Text, Value, Variant,
 };
 
-use crate::call::{Call, Parts};
+use crate::call::{Call, Entry, Parts, Reading};
 use crate::ffi::{POT_AFTER, POT_BODY, POT_FIRST, POT_WORDS};
 use crate::proved::halves;
 
@@ -57,7 +57,7 @@ impl Judge {
     /// The answer to the call with room for all it writes; none if it is outside the domain and the table leaves it open.
     pub fn expected(&mut self, call: &Call<'_>) -> Option<Said> {
         match *call {
-            Call::ReadHeader(reading) => self.given(&Request::ReadHeader(reading)),
+            Call::ReadHeader(reading) => self.given(&Request::ReadHeader(reading.for_original())),
             Call::ReadAtom(budget, reading) => Some(self.atom(budget, reading)),
             Call::SkipAtom(budget, reading) => Some(self.skipped(budget, reading)),
             Call::Run(budget, source) => self.given(&Request::Run(budget, source)),
@@ -118,16 +118,16 @@ impl Judge {
 
     /// An atom. A float's stored bits, which the original does not keep, stand in the source.
     fn atom(&mut self, budget: u64, reading: Reading<'_>) -> Said {
-        let mut said = self.unless_too_long(&Request::ReadAtom(budget, reading), budget, reading);
+        let mut said = self.unless_too_long(&Request::ReadAtom(budget, reading.for_original()), budget, reading);
         if said.number == 0 && said.words[4] == FLOAT {
             said.words[7] = stored(reading.source, said.words[POT_BODY], said.words[3] + 1);
         }
         said
     }
 
-    /// A skip, which is the step under exact reading, whatever way the call names.
+    /// A skip, which is the step under exact reading, whatever entry the call names.
     fn skipped(&mut self, budget: u64, reading: Reading<'_>) -> Said {
-        let reading = Reading { way: Way::ExactLent, ..reading };
+        let reading = Reading { entry: Entry::Exact, ..reading };
         self.unless_too_long(&Request::Step(budget, reading.place, reading.source), budget, reading)
     }
 
@@ -142,7 +142,7 @@ impl Judge {
 
     /// An atom's header: place, kind and argument, or place.
     pub fn header(&mut self, reading: Reading<'_>) -> Said {
-        self.given(&Request::ReadAtomHeader(reading)).expect("every header is in the domain")
+        self.given(&Request::ReadAtomHeader(reading.for_original())).expect("every header is in the domain")
     }
 }
 

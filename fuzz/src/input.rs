@@ -1,11 +1,12 @@
 //! The fuzzer's bytes as a call and its room, and back. The first byte chooses the call, the next ones are the room and
-//! the call's numbers, and the rest is the source. A byte that is missing is zero, so that every input is a call.
+//! the call's numbers, of a reader also which entry it is, and the rest is the source. A byte that is missing is zero, so
+//! that every input is a call.
 //!
 //! A number below `WIDE` is one byte; a larger one is `WIDE` and its count of bytes less one, then the bytes, lowest first.
 
-use oracle::wire::{Reading, Way, Writer};
+use oracle::wire::Writer;
 
-use crate::call::{Call, Parts, Room};
+use crate::call::{Call, Entry, Parts, Reading, Room};
 use crate::ffi::POT_WORDS;
 
 const WIDE: u8 = 0xf0;
@@ -53,9 +54,9 @@ impl<'a> Bytes<'a> {
     }
 
     fn reading(&mut self) -> Reading<'a> {
-        let way = Way::ALL[usize::from(self.byte() % 3)];
+        let entry = Entry::ALL[usize::from(self.byte()) % Entry::ALL.len()];
         let place = self.word();
-        Reading { way, place, source: self.rest }
+        Reading { entry, place, source: self.rest }
     }
 
     fn call(&mut self, code: u8) -> Call<'a> {
@@ -65,8 +66,8 @@ impl<'a> Bytes<'a> {
             2 => Call::SkipAtom(self.word(), self.reading()),
             3 => {
                 let budget = self.word();
-                let Reading { way, source, .. } = self.reading();
-                Call::Walk(budget, way, source)
+                let Reading { entry, source, .. } = self.reading();
+                Call::Walk(budget, entry, source)
             }
             4 => Call::Run(self.word(), self.rest),
             5 => Call::Tally(self.rest),
@@ -118,9 +119,9 @@ pub fn encode(call: &Call<'_>, room: Room) -> Vec<u8> {
             put(&mut bytes, u128::from(budget));
             put_reading(&mut bytes, &reading);
         }
-        Call::Walk(budget, way, source) => {
+        Call::Walk(budget, entry, source) => {
             put(&mut bytes, u128::from(budget));
-            put_reading(&mut bytes, &Reading { way, place: 0, source });
+            put_reading(&mut bytes, &Reading { entry, place: 0, source });
         }
         Call::Run(budget, source) => {
             put(&mut bytes, u128::from(budget));
@@ -195,7 +196,7 @@ fn put_parts(bytes: &mut Vec<u8>, parts: Parts) {
 }
 
 fn put_reading(bytes: &mut Vec<u8>, reading: &Reading<'_>) {
-    bytes.push(reading.way as u8);
+    bytes.push(reading.entry as u8);
     put(bytes, u128::from(reading.place));
     bytes.extend_from_slice(reading.source);
 }

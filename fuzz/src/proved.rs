@@ -1,8 +1,8 @@
 //! Calls of the proved exports, by pointers and lengths.
 
-use oracle::wire::{Way, Writer};
+use oracle::wire::Writer;
 
-use crate::call::{Call, Parts};
+use crate::call::{Call, Entry, Parts};
 use crate::ffi::*;
 
 /// A lent buffer as the exports take it.
@@ -49,16 +49,22 @@ unsafe fn read(call: &Call<'_>, lent: &Slices) -> u64 {
     let (Slice { start: source, length: size }, Slice { start: words, length: count }) = (lent.source, lent.words);
     let (scratch, room) = (lent.bytes.start, lent.bytes.length);
     match *call {
-        Call::ReadHeader(reading) => match reading.way {
-            Way::Filled => pot_read_header(source, size, reading.place as usize, words, count),
-            _ => pot_read_header_exact(source, size, reading.place as usize, words, count),
-        },
+        Call::ReadHeader(reading) => {
+            let place = reading.place as usize;
+            match reading.entry {
+                Entry::Unnamed => pot_read_header(source, size, place, words, count),
+                Entry::Filled => pot_read_header_filled(source, size, place, words, count),
+                // A signature has no string to copy.
+                Entry::Exact | Entry::Copied => pot_read_header_exact(source, size, place, words, count),
+            }
+        }
         Call::ReadAtom(budget, reading) => {
             let place = reading.place as usize;
-            match reading.way {
-                Way::Filled => pot_read_atom(source, size, place, budget, words, count),
-                Way::ExactLent => pot_read_atom_exact(source, size, place, budget, words, count),
-                Way::ExactCopied => pot_read_atom_copied(source, size, place, budget, scratch, room, words, count),
+            match reading.entry {
+                Entry::Unnamed => pot_read_atom(source, size, place, budget, words, count),
+                Entry::Filled => pot_read_atom_filled(source, size, place, budget, words, count),
+                Entry::Exact => pot_read_atom_exact(source, size, place, budget, words, count),
+                Entry::Copied => pot_read_atom_copied(source, size, place, budget, scratch, room, words, count),
             }
         }
         Call::SkipAtom(budget, reading) => pot_skip_atom(source, size, reading.place as usize, budget, words, count),

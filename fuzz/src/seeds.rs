@@ -3,9 +3,9 @@
 use std::io::{self, BufRead};
 use std::path::Path;
 
-use oracle::wire::{Float, Integer, Reading, Request, Way};
+use oracle::wire::{self, Float, Integer, Request};
 
-use crate::call::{Call, Parts, Room};
+use crate::call::{Call, Entry, Parts, Reading, Room};
 use crate::ffi::POT_WORDS;
 use crate::input::encode;
 
@@ -26,18 +26,21 @@ pub fn write_seeds(lines: impl BufRead, folder: &Path) -> io::Result<usize> {
     Ok(count)
 }
 
-/// The calls that ask what the request asks. The source of an atom is also skipped, walked, run, tallied and checked.
+/// The calls that ask what the request asks: of a reader those of each entry that reads by its way. The source of an atom is
+/// also skipped, walked, run, tallied and checked.
 fn calls<'a>(request: &Request<'a>) -> Vec<Call<'a>> {
     match *request {
-        Request::ReadHeader(reading) => vec![Call::ReadHeader(reading)],
-        Request::ReadAtom(budget, reading) => atom_calls(budget, reading),
+        Request::ReadHeader(reading) => readings(reading).map(Call::ReadHeader).collect(),
+        Request::ReadAtom(budget, reading) => {
+            readings(reading).flat_map(|reading| atom_calls(budget, reading)).collect()
+        }
         Request::WriteAtomHeader(kind, arg) => vec![Call::WriteAtomHeader(kind, arg)],
         Request::WriteHeader(version) => vec![Call::WriteHeader(version)],
         Request::Run(budget, source) => vec![Call::Run(budget, source)],
         Request::Tally(source) => vec![Call::Tally(source)],
         Request::Check(source) => vec![Call::Check(source)],
         Request::Step(budget, place, source) => {
-            vec![Call::SkipAtom(budget, Reading { way: Way::ExactLent, place, source })]
+            vec![Call::SkipAtom(budget, Reading { entry: Entry::Exact, place, source })]
         }
         Request::IntegerAs(to, integer) => vec![Call::Cast(to as u64, parts(integer))],
         Request::IntegerAsF32(integer) => vec![Call::AsF32(parts(integer))],
@@ -60,19 +63,19 @@ fn calls<'a>(request: &Request<'a>) -> Vec<Call<'a>> {
     }
 }
 
+/// The same place and source for each entry that reads by the request's way.
+fn readings(asked: wire::Reading<'_>) -> impl Iterator<Item = Reading<'_>> {
+    let wire::Reading { way, place, source } = asked;
+    Entry::ALL.into_iter().filter(move |entry| entry.way() == way).map(move |entry| Reading { entry, place, source })
+}
+
 fn atom_calls(budget: u64, reading: Reading<'_>) -> Vec<Call<'_>> {
-    let Reading { way, source, .. } = reading;
-    match way {
-        Way::Filled => vec![Call::ReadAtom(budget, reading), Call::Walk(budget, way, source)],
-        Way::ExactLent => vec![
-            Call::ReadAtom(budget, reading),
-            Call::SkipAtom(budget, reading),
-            Call::Tally(source),
-            Call::Check(source),
-        ],
-        Way::ExactCopied => {
-            vec![Call::ReadAtom(budget, reading), Call::Run(budget, source), Call::Walk(budget, way, source)]
-        }
+    let Reading { entry, source, .. } = reading;
+    let read = Call::ReadAtom(budget, reading);
+    match entry {
+        Entry::Unnamed | Entry::Filled => vec![read, Call::Walk(budget, entry, source)],
+        Entry::Exact => vec![read, Call::SkipAtom(budget, reading), Call::Tally(source), Call::Check(source)],
+        Entry::Copied => vec![read, Call::Run(budget, source), Call::Walk(budget, entry, source)],
     }
 }
 

@@ -3,11 +3,11 @@
 //! the status is 1; it is 2 if there is no file to read.
 use std::process::ExitCode;
 
-use dimewagon::{check, read_header_exact, Refused};
+use dimewagon::{check, read_header, Refused};
 
 /// The signature is not part of what is checked, and what is behind it has places of its own.
 fn accept(file: &[u8]) -> Result<(), Refused> {
-    let (_version, atoms) = read_header_exact(file)?;
+    let (_version, atoms) = read_header(file)?;
     check(atoms).map_err(|mut refused| {
         refused.start += file.len() - atoms.len();
         refused

@@ -27,8 +27,10 @@ macro_rules! readers {
 
 readers! {
     pot_read_header(place: usize)
+    pot_read_header_filled(place: usize)
     pot_read_header_exact(place: usize)
     pot_read_atom(place: usize, budget: u64)
+    pot_read_atom_filled(place: usize, budget: u64)
     pot_read_atom_exact(place: usize, budget: u64)
     pot_skip_atom(place: usize, budget: u64)
     pot_run(budget: u64)

@@ -13,8 +13,10 @@ pub const POT_AFTER: usize = 10;
 #[rustfmt::skip]
 extern "C" {
     pub fn pot_read_header(source: *const u8, source_len: usize, place: usize, words: *mut u64, words_len: usize) -> u64;
+    pub fn pot_read_header_filled(source: *const u8, source_len: usize, place: usize, words: *mut u64, words_len: usize) -> u64;
     pub fn pot_read_header_exact(source: *const u8, source_len: usize, place: usize, words: *mut u64, words_len: usize) -> u64;
     pub fn pot_read_atom(source: *const u8, source_len: usize, place: usize, budget: u64, words: *mut u64, words_len: usize) -> u64;
+    pub fn pot_read_atom_filled(source: *const u8, source_len: usize, place: usize, budget: u64, words: *mut u64, words_len: usize) -> u64;
     pub fn pot_read_atom_exact(source: *const u8, source_len: usize, place: usize, budget: u64, words: *mut u64, words_len: usize) -> u64;
     pub fn pot_read_atom_copied(source: *const u8, source_len: usize, place: usize, budget: u64, scratch: *mut u8, scratch_len: usize, words: *mut u64, words_len: usize) -> u64;
     pub fn pot_skip_atom(source: *const u8, source_len: usize, place: usize, budget: u64, words: *mut u64, words_len: usize) -> u64;

@@ -1,7 +1,8 @@
 //! The atoms of dictionary files, read, written and cast by a proved library.
 //!
 //! Reading is exact: anything past the end of the source is refused, with the refusal's number and the place. Only
-//! [`read_atom`] and [`read_header`] take the bytes that are missing as zeros. Strings are lent: they are parts of the source.
+//! [`read_header_filled`] and [`read_atom_filled`] take the bytes that are missing as zeros: they are for old files whose
+//! trailing zeros were trimmed. Strings are lent: they are parts of the source. Only [`read_atom_copied`] copies one.
 //! Places count from the start of the slice that was given, and each atom carries its own. No function panics, whatever
 //! it is given.
 //!

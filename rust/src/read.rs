@@ -36,15 +36,33 @@ fn version((number, w): Answer, source: &[u8]) -> Result<(u8, &[u8]), Stopped> {
     Ok((w[1] as u8, &source[place..]))
 }
 
-/// Reads the signature of a file: its version, and what follows it. Bytes past the end read as zeros.
+/// Reads the signature of a file: its version, and what follows it. It names no way and reads exactly, as
+/// [`read_header_exact`] does.
 ///
 /// ```
-/// let (version, body) = dimewagon::read_header(b"Pot")?;
-/// assert_eq!((version, body), (0, &b""[..]));
+/// use dimewagon::{read_header, Refusal};
+///
+/// assert_eq!(read_header(b"Pot\x01\x40\x05")?, (1, &[0x40, 0x05][..]));
+/// assert_eq!(read_header(b"Pox\x01").unwrap_err().refusal, Refusal::IncompatibleVersion);
+/// let stopped = read_header(b"Pot").unwrap_err();
+/// assert_eq!((stopped.refusal, stopped.place), (Refusal::Eof, 3));
 /// # Ok::<(), dimewagon::Stopped>(())
 /// ```
 pub fn read_header(source: &[u8]) -> Result<(u8, &[u8]), Stopped> {
     version(calls::pot_read_header(source, 0), source)
+}
+
+/// Reads the signature of a file, with zeros for the bytes past the end: its version, and what follows it. It is for an
+/// old file whose trailing zeros were trimmed; one that was cut looks the same.
+///
+/// ```
+/// // Version 0, trimmed.
+/// let (version, body) = dimewagon::read_header_filled(b"Pot")?;
+/// assert_eq!((version, body), (0, &b""[..]));
+/// # Ok::<(), dimewagon::Stopped>(())
+/// ```
+pub fn read_header_filled(source: &[u8]) -> Result<(u8, &[u8]), Stopped> {
+    version(calls::pot_read_header_filled(source, 0), source)
 }
 
 /// Reads the signature of a file exactly: its version, and what follows it.
@@ -54,35 +72,62 @@ pub fn read_header(source: &[u8]) -> Result<(u8, &[u8]), Stopped> {
 ///
 /// assert_eq!(read_header_exact(b"Pot\x01\x40\x05")?, (1, &[0x40, 0x05][..]));
 /// assert_eq!(read_header_exact(b"Pot").unwrap_err().refusal, Refusal::Eof);
-/// assert_eq!(read_header_exact(b"Pox\x01").unwrap_err().refusal, Refusal::IncompatibleVersion);
 /// # Ok::<(), dimewagon::Stopped>(())
 /// ```
 pub fn read_header_exact(source: &[u8]) -> Result<(u8, &[u8]), Stopped> {
     version(calls::pot_read_header_exact(source, 0), source)
 }
 
-/// Reads one atom at a place; header and number bytes past the end read as zeros.
+/// Reads one atom at a place; a string is a part of the source. It names no way and reads exactly, as
+/// [`read_atom_exact`] does.
 ///
 /// ```
-/// use dimewagon::{read_atom, read_atom_exact, Integer, Nucleus, Refusal};
+/// use dimewagon::{read_atom, Refusal};
 ///
-/// let cut = [0x41, 0x2C];
-/// assert_eq!(read_atom(&cut, 0, 2)?.atom.nucleus, Nucleus::Integer(Integer::U16(44)));
-/// assert_eq!(read_atom_exact(&cut, 0, 2).unwrap_err().refusal, Refusal::Eof);
+/// let read = read_atom(&[0x00, 0xE2, 0x61, 0x62], 1, 9)?;
+/// assert_eq!(read.atom.nucleus.bytes(), Some(&b"ab"[..]));
+/// assert_eq!((read.place, read.budget), (4, 7));
+/// // A number of two bytes, cut after the first.
+/// let stopped = read_atom(&[0x41, 0x2C], 0, 9).unwrap_err();
+/// assert_eq!((stopped.refusal, stopped.place), (Refusal::Eof, 2));
 /// # Ok::<(), dimewagon::Stopped>(())
 /// ```
 pub fn read_atom(source: &[u8], place: usize, budget: u64) -> Result<Read<'_>, Stopped> {
     read(calls::pot_read_atom(source, place, budget), source, place.min(source.len()))
 }
 
+/// Reads one atom at a place, with zeros for the header and number bytes past the end; a string is a part of the source,
+/// and refused where it runs out. It is for an old file whose trailing zeros were trimmed; one that was cut looks the
+/// same. At the end it answers None for ever, so that a loop must stop by the place.
+///
+/// ```
+/// use dimewagon::{read_atom_filled, Integer, Nucleus};
+///
+/// // 5, and 200 in two bytes, of which the second, a zero, was trimmed.
+/// let trimmed = [0x40, 0x05, 0x21, 0xC8];
+/// let (mut found, mut place) = (Vec::new(), 0);
+/// while place < trimmed.len() {
+///     let read = read_atom_filled(&trimmed, place, u64::MAX)?;
+///     found.push(read.atom.nucleus);
+///     place = read.place;
+/// }
+/// assert_eq!(found, [Nucleus::Integer(Integer::U8(5)), Nucleus::Integer(Integer::I16(200))]);
+/// assert_eq!(read_atom_filled(&trimmed, place, 0)?.atom.nucleus, Nucleus::None);
+/// # Ok::<(), dimewagon::Stopped>(())
+/// ```
+pub fn read_atom_filled(source: &[u8], place: usize, budget: u64) -> Result<Read<'_>, Stopped> {
+    read(calls::pot_read_atom_filled(source, place, budget), source, place.min(source.len()))
+}
+
 /// Reads one atom at a place exactly; a string is a part of the source.
 ///
 /// ```
-/// use dimewagon::{read_atom_exact, Refusal};
+/// use dimewagon::{read_atom, read_atom_exact};
 ///
-/// let read = read_atom_exact(&[0x00, 0xE2, 0x61, 0x62], 1, 9)?;
+/// let source = [0x00, 0xE2, 0x61, 0x62];
+/// let read = read_atom_exact(&source, 1, 9)?;
 /// assert_eq!(read.atom.nucleus.bytes(), Some(&b"ab"[..]));
-/// assert_eq!((read.place, read.budget), (4, 7));
+/// assert_eq!(read, read_atom(&source, 1, 9)?);
 /// # Ok::<(), dimewagon::Stopped>(())
 /// ```
 pub fn read_atom_exact(source: &[u8], place: usize, budget: u64) -> Result<Read<'_>, Stopped> {
@@ -168,7 +213,7 @@ impl<'a> Atoms<'a> {
     /// # Ok::<(), dimewagon::Stopped>(())
     /// ```
     pub fn of_file(file: &'a [u8]) -> Result<(u8, Self), Stopped> {
-        let (version, body) = read_header_exact(file)?;
+        let (version, body) = read_header(file)?;
         Ok((version, Self { place: file.len() - body.len(), ..Self::new(file) }))
     }
 
@@ -224,7 +269,7 @@ impl<'a> Iterator for Atoms<'a> {
         if self.stopped || self.place >= self.source.len() {
             return None;
         }
-        match read_atom_exact(self.source, self.place, self.budget) {
+        match read_atom(self.source, self.place, self.budget) {
             Ok(read) => {
                 (self.place, self.budget, self.last) = (read.place, read.budget, read.atom.places);
                 self.atoms += 1;
@@ -331,11 +376,11 @@ pub fn tally(source: &[u8]) -> Result<Tally, Refused> {
 /// none of these.
 ///
 /// ```
-/// use dimewagon::{check, read_header_exact, Refusal, Refused};
+/// use dimewagon::{check, read_header, Refusal, Refused};
 ///
 /// /// A file has a signature, which is read first.
 /// fn accept(file: &[u8]) -> Result<(), Refused> {
-///     let (_version, atoms) = read_header_exact(file)?;
+///     let (_version, atoms) = read_header(file)?;
 ///     check(atoms)
 /// }
 ///

@@ -143,13 +143,13 @@ impl Error for Refused {}
 /// A refusal, and where reading stopped. Its text is that of [`Refused`].
 ///
 /// ```
-/// use dimewagon::{read_atom_exact, run, Places};
+/// use dimewagon::{read_atom, run, Places};
 ///
 /// let source = [0x40, 0x05, 0x07];
 /// let stopped = run(&source, 9).unwrap_err();
 /// assert_eq!((stopped.start, stopped.atoms, stopped.last.range()), (2, 1, 0..2));
 /// // One atom alone has none before it.
-/// let stopped = read_atom_exact(&source, 2, 9).unwrap_err();
+/// let stopped = read_atom(&source, 2, 9).unwrap_err();
 /// assert_eq!((stopped.start, stopped.atoms, stopped.last), (2, 0, Places::default()));
 /// ```
 #[derive(Clone, Copy, Debug, PartialEq, Eq, Hash)]

@@ -450,7 +450,7 @@ impl Places {
     ///
     /// ```
     /// let source = [0x00, 0xE2, 0x61, 0x62, 0x01];
-    /// let string = dimewagon::read_atom_exact(&source, 1, 9)?.atom;
+    /// let string = dimewagon::read_atom(&source, 1, 9)?.atom;
     /// assert_eq!(source[string.places.range()], [0xE2, 0x61, 0x62]);
     /// # Ok::<(), dimewagon::Stopped>(())
     /// ```
@@ -462,7 +462,7 @@ impl Places {
     ///
     /// ```
     /// let source = [0x00, 0xE2, 0x61, 0x62, 0x01];
-    /// let string = dimewagon::read_atom_exact(&source, 1, 9)?.atom;
+    /// let string = dimewagon::read_atom(&source, 1, 9)?.atom;
     /// assert_eq!(source[string.places.header_range()], [0xE2]);
     /// # Ok::<(), dimewagon::Stopped>(())
     /// ```
@@ -474,7 +474,7 @@ impl Places {
     ///
     /// ```
     /// let source = [0x00, 0xE2, 0x61, 0x62, 0x01];
-    /// let string = dimewagon::read_atom_exact(&source, 1, 9)?.atom;
+    /// let string = dimewagon::read_atom(&source, 1, 9)?.atom;
     /// assert_eq!(source[string.places.body_range()], [0x61, 0x62]);
     /// # Ok::<(), dimewagon::Stopped>(())
     /// ```

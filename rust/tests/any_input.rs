@@ -13,7 +13,8 @@ fn read_all(source: &[u8], place: usize, budget: u64) {
     assert_same(read_atom_copied(source, place, budget, &mut scratch), exact);
     let skipped = skip_atom(source, place, budget).map(|atom| (atom.place, atom.budget, atom.places));
     assert_eq!(skipped, exact.map(|read| (read.place, read.budget, read.atom.places)));
-    let filled = read_atom(source, place, budget);
+    assert_same(read_atom(source, place, budget), exact);
+    let filled = read_atom_filled(source, place, budget);
     if let Ok(read) = exact {
         assert_same(filled, exact);
         convert(read.atom.nucleus);
@@ -21,7 +22,7 @@ fn read_all(source: &[u8], place: usize, budget: u64) {
     if let Ok(read) = filled {
         stands(&read, source, place);
     }
-    let _ = (read_header(source), Atoms::of_file(source));
+    let _ = (read_header(source), read_header_filled(source), read_header_exact(source), Atoms::of_file(source));
 }
 
 /// The places of an atom that was read at a place.

@@ -66,11 +66,53 @@ fn one(answer: Result<Read<'_>, Stopped>, budget: u64) -> String {
     }
 }
 
-fn signature(source: &[u8]) -> String {
-    match read_header_exact(source) {
+/// One atom, exactly: by the entry that names no way, and by the one that does.
+fn exact(source: &[u8], budget: u64) -> String {
+    let answer = one(read_atom(source, 0, budget), budget);
+    assert_eq!(answer, one(read_atom_exact(source, 0, budget), budget));
+    answer
+}
+
+/// The atoms of a source under filled reading, each read from the place after the one before: until the end, or as many.
+fn filled(source: &[u8], reads: Option<usize>) -> String {
+    let (mut found, mut place) = (Vec::new(), 0);
+    while reads.map_or(place < source.len(), |reads| found.len() < reads) {
+        let read = read_atom_filled(source, place, 99).unwrap();
+        found.push(format!("{:?} {}", read.atom.kind, held(read.atom)));
+        place = read.place;
+    }
+    if found.is_empty() {
+        "no atom".into()
+    } else {
+        found.join(", ")
+    }
+}
+
+/// What reads many atoms, or builds no value, and refuses what filled reading of one atom takes.
+fn exact_only(source: &[u8]) -> String {
+    let stopped = Atoms::new(source).last().unwrap().unwrap_err();
+    assert!(read_atom_filled(source, stopped.start, 99).is_ok());
+    assert_eq!(run(source, u64::MAX), Err(stopped));
+    assert_eq!(tally(source), Err(stopped.into()));
+    let unfit = check(source).unwrap_err();
+    assert_eq!((unfit.refusal, unfit.start), (stopped.refusal, stopped.start));
+    let skipped = skip_atom(source, stopped.start, u64::MAX).unwrap_err();
+    assert_eq!((skipped.refusal, skipped.place), (stopped.refusal, stopped.place));
+    format!("{}; start {}", refused(stopped.refusal), stopped.start)
+}
+
+fn version(answer: Result<(u8, &[u8]), Stopped>) -> String {
+    match answer {
         Ok((version, _)) => format!("version {version}"),
         Err(stopped) => refused(stopped.refusal),
     }
+}
+
+/// A signature, exactly: by the entry that names no way, and by the one that does.
+fn signature(source: &[u8]) -> String {
+    let answer = version(read_header(source));
+    assert_eq!(answer, version(read_header_exact(source)));
+    answer
 }
 
 fn file(source: &[u8]) -> String {
@@ -137,16 +179,20 @@ fn every_example_of_the_page_is_so() {
     let mut ran = BTreeMap::new();
     for (block, left, right) in examples() {
         let answer = match block {
-            "exact" => one(read_atom_exact(&bytes(left), 0, 99), 99),
-            "exact, budget 3" => one(read_atom_exact(&bytes(left), 0, 3), 3),
-            "filled" => one(read_atom(&bytes(left), 0, 99), 99),
+            "exact" => exact(&bytes(left), 99),
+            "exact, budget 3" => exact(&bytes(left), 3),
+            "exact only" => exact_only(&bytes(left)),
+            "filled" => one(read_atom_filled(&bytes(left), 0, 99), 99),
+            "filled, to the end" => filled(&bytes(left), None),
+            "filled, four reads" => filled(&bytes(left), Some(4)),
+            "filled signature" => version(read_header_filled(&bytes(left))),
             "signature" => signature(&bytes(left)),
             "file" => file(&bytes(left)),
             "check" => checked(&bytes(left)),
             "cuts" => cuts(&bytes(left)),
             "places" => places(Atoms::new(&bytes(left))),
             "file places" => places(Atoms::of_file(&bytes(left)).unwrap().1),
-            "filled places" => three(read_atom(&bytes(left), 0, 99).unwrap().atom.places),
+            "filled places" => three(read_atom_filled(&bytes(left), 0, 99).unwrap().atom.places),
             "last places" => last(&bytes(left)),
             "written" => written(left),
             _ => panic!("no block is called {block}"),
@@ -158,11 +204,15 @@ fn every_example_of_the_page_is_so() {
         ("check", 21),
         ("cuts", 1),
         ("exact", 32),
+        ("exact only", 2),
         ("exact, budget 3", 5),
         ("file", 15),
         ("file places", 1),
-        ("filled", 4),
+        ("filled", 6),
         ("filled places", 4),
+        ("filled signature", 3),
+        ("filled, four reads", 2),
+        ("filled, to the end", 3),
         ("last places", 5),
         ("places", 4),
         ("signature", 6),

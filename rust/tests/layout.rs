@@ -24,8 +24,16 @@ fn said(first: &[u64], places: [u64; 3]) -> Words {
     words
 }
 
+/// One atom by the entry that names no way, which answers as the exact one does.
 fn atom(source: &[u8], budget: u64) -> (u64, Words) {
-    asked(|w, n| unsafe { pot_read_atom_exact(source.as_ptr(), source.len(), 0, budget, w, n) })
+    let answer = asked(|w, n| unsafe { pot_read_atom(source.as_ptr(), source.len(), 0, budget, w, n) });
+    let exact = asked(|w, n| unsafe { pot_read_atom_exact(source.as_ptr(), source.len(), 0, budget, w, n) });
+    assert_eq!(answer, exact);
+    answer
+}
+
+fn filled(source: &[u8], budget: u64) -> (u64, Words) {
+    asked(|w, n| unsafe { pot_read_atom_filled(source.as_ptr(), source.len(), 0, budget, w, n) })
 }
 
 #[test]
@@ -56,6 +64,18 @@ fn refusals() {
     assert_eq!(atom(&[0x24], 4), (5, said(&[1, 4], NONE)));
     assert_eq!(atom(&[0x07], 4), (3, said(&[1, 4, 7], NONE)));
     assert_eq!(atom(&[0x41, 0x2C], 4), (4, said(&[2, 2], NONE)));
+}
+
+#[test]
+fn zeros_past_the_end() {
+    assert_eq!(filled(&[0x41, 0x2C], 4), (0, said(&[2, 2, 2, 1, 2, 6, 44, 0], [0, 1, 2])));
+    assert_eq!(filled(&[], 4), (0, said(&[0, 4, 0, 0], [0, 0, 0])));
+    assert_eq!(filled(&[0xE2, 0x61], 4), (4, said(&[2, 2], NONE)));
+    let signature =
+        |read: unsafe extern "C" fn(_, _, _, _, _) -> u64| asked(|w, n| unsafe { read(b"Pot".as_ptr(), 3, 0, w, n) });
+    assert_eq!(signature(pot_read_header_filled), (0, said(&[3, 0], NONE)));
+    assert_eq!(signature(pot_read_header), (4, said(&[3], NONE)));
+    assert_eq!(signature(pot_read_header_exact), (4, said(&[3], NONE)));
 }
 
 #[test]
@@ -93,6 +113,11 @@ fn no_room_for_the_words() {
             [
                 pot_write_u8(room, size, 1, w, count),
                 pot_write_special(room, size, 1, w, count),
+                pot_read_header(given, source.len(), 0, w, count),
+                pot_read_header_filled(given, source.len(), 0, w, count),
+                pot_read_header_exact(given, source.len(), 0, w, count),
+                pot_read_atom(given, source.len(), 0, 9, w, count),
+                pot_read_atom_filled(given, source.len(), 0, 9, w, count),
                 pot_read_atom_exact(given, source.len(), 0, 9, w, count),
                 pot_read_atom_copied(given, source.len(), 0, 9, room, size, w, count),
                 pot_run(given, source.len(), 9, w, count),
@@ -100,7 +125,7 @@ fn no_room_for_the_words() {
                 pot_check(given, source.len(), w, count),
             ]
         };
-        assert_eq!((numbers, words, out), ([9; 7], [OLD; POT_WORDS], [9; 4]));
+        assert_eq!((numbers, words, out), ([9; 12], [OLD; POT_WORDS], [9; 4]));
     }
 }
 

@@ -37,7 +37,7 @@ fn three(places: Places) -> (usize, usize, usize) {
 fn the_bytes_of_an_atom_read_back_alone() {
     for atom in atoms_of_file() {
         let alone = &FILE[atom.places.range()];
-        let again = read_atom_exact(alone, 0, u64::MAX).unwrap();
+        let again = read_atom(alone, 0, u64::MAX).unwrap();
         assert_eq!((again.atom.kind, again.atom.arg, again.atom.nucleus), (atom.kind, atom.arg, atom.nucleus));
         let moved = (0, atom.places.body - atom.places.first, alone.len());
         assert_eq!((three(again.atom.places), again.place), (moved, alone.len()));
@@ -89,7 +89,7 @@ fn a_body_is_the_string_or_the_number_as_it_is_stored() {
 #[test]
 fn a_string_that_is_copied_has_the_places_of_the_source() {
     let source = [0x00, 0xE2, 0x61, 0x62];
-    let lent = read_atom_exact(&source, 1, 9).unwrap().atom;
+    let lent = read_atom(&source, 1, 9).unwrap().atom;
     let mut scratch = [9; 4];
     let area = scratch.as_ptr_range();
     let copied = read_atom_copied(&source, 1, 9, &mut scratch).unwrap().atom;
@@ -111,10 +111,11 @@ fn an_atom_that_is_skipped_has_the_places_of_the_one_that_is_read() {
 fn a_place_past_the_end_is_the_end() {
     let source = [0x40, 0x05];
     for place in [2, 3, usize::MAX] {
-        let filled = read_atom(&source, place, 0).unwrap();
+        let filled = read_atom_filled(&source, place, 0).unwrap();
         assert_eq!((filled.atom.kind, filled.place, three(filled.atom.places)), (Kind::Special, 2, (2, 2, 2)));
-        let stopped = read_atom_exact(&source, place, 0).unwrap_err();
+        let stopped = read_atom(&source, place, 0).unwrap_err();
         assert_eq!((stopped.refusal, stopped.start, stopped.last), (Refusal::Eof, 2, Places::default()));
+        assert_eq!(read_atom_exact(&source, place, 0), Err(stopped));
         assert_eq!(skip_atom(&source, place, 0), Err(stopped));
         assert_eq!(read_atom_copied(&source, place, 0, &mut []), Err(stopped));
     }
@@ -122,7 +123,7 @@ fn a_place_past_the_end_is_the_end() {
 
 #[test]
 fn filled_reading_ends_at_the_end() {
-    let places = |source: &[u8], place| three(read_atom(source, place, u64::MAX).unwrap().atom.places);
+    let places = |source: &[u8], place| three(read_atom_filled(source, place, u64::MAX).unwrap().atom.places);
     assert_eq!(places(&[], 0), (0, 0, 0));
     // A number of two bytes with one, with none, and with none after a header that is cut.
     assert_eq!(places(&[0x41, 0x2C], 0), (0, 1, 2));
@@ -135,7 +136,7 @@ fn places_rise_or_stay_level_past_the_end() {
     let mut before = (0, 0, 0);
     let mut place = 0;
     for _ in 0..20 {
-        let read = read_atom(body(), place, u64::MAX).unwrap();
+        let read = read_atom_filled(body(), place, u64::MAX).unwrap();
         let now = three(read.atom.places);
         assert!(before.0 <= now.0 && before.1 <= now.1 && before.2 <= now.2);
         assert_eq!((now.0, now.2), (place, read.place));
@@ -195,8 +196,10 @@ fn zeros_where_no_atom_was_read() {
     // One atom that is refused, and a signature, have none before them.
     let source = [0x40, 0x05, 0x24];
     assert_eq!(read_atom(&source, 2, 9).unwrap_err().last, none);
+    assert_eq!(read_atom_filled(&source, 2, 9).unwrap_err().last, none);
     assert_eq!(read_atom_exact(&source, 2, 9).unwrap_err().last, none);
     assert_eq!(read_atom_copied(&source, 2, 9, &mut []).unwrap_err().last, none);
     assert_eq!(skip_atom(&source, 2, 9).unwrap_err().last, none);
-    assert_eq!((read_header(&source).unwrap_err().last, read_header_exact(b"Pot").unwrap_err().last), (none, none));
+    assert_eq!((read_header(b"Pot").unwrap_err().last, read_header_exact(b"Pot").unwrap_err().last), (none, none));
+    assert_eq!(read_header_filled(&source).unwrap_err().last, none);
 }

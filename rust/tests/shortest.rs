@@ -189,7 +189,7 @@ fn a_larger_count_is_refused() {
     for atom in integers() {
         for larger in in_larger_counts(&atom) {
             let value =
-                |bytes: &[u8]| read_atom_exact(bytes, 0, u64::MAX).unwrap().atom.nucleus.integer().unwrap().to_string();
+                |bytes: &[u8]| read_atom(bytes, 0, u64::MAX).unwrap().atom.nucleus.integer().unwrap().to_string();
             assert_eq!(value(&larger), value(&atom));
             assert_refused(&larger, NOT_SHORTEST);
             longer += 1;
@@ -219,7 +219,7 @@ fn every_binary16_has_two_bytes() {
         let [low, high] = pattern.to_le_bytes();
         let atom = [0x61, low, high];
         assert_eq!(refused(&atom), None, "{pattern:04X}");
-        let Nucleus::Float(Float::F32(value), _) = read_atom_exact(&atom, 0, 2).unwrap().atom.nucleus else {
+        let Nucleus::Float(Float::F32(value), _) = read_atom(&atom, 0, 2).unwrap().atom.nucleus else {
             panic!("two bytes are read as an f32");
         };
         let expected = if value.is_nan() { None } else { Some((NOT_SHORTEST, 0)) };
@@ -306,7 +306,7 @@ fn a_source_has_any_length() {
 fn expected(source: &[u8]) -> Option<(u64, usize)> {
     let mut place = 0;
     while place < source.len() {
-        let atom = match read_atom_exact(source, place, u64::MAX) {
+        let atom = match read_atom(source, place, u64::MAX) {
             Ok(read) => read.atom,
             Err(stopped) => return Some((stopped.refusal.number(), stopped.start)),
         };

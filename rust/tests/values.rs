@@ -22,20 +22,20 @@ fn places_of_a_file_count_its_signature() {
     let stopped = atoms.next().unwrap().unwrap_err();
     assert_eq!((stopped.refusal, stopped.start, stopped.place, stopped.atoms), (Refusal::Eof, 8, 10, 1));
     assert_eq!(Atoms::of_file(b"Pox\x01").unwrap_err().to_string(), "refusal 1 at 0: incompatible version");
-    assert_eq!(read_atom_exact(&[], usize::MAX, 9).unwrap_err().start, 0);
+    assert_eq!(read_atom(&[], usize::MAX, 9).unwrap_err().start, 0);
 }
 
 #[test]
 fn errors_of_each_function_become_one() {
     fn load(source: &[u8]) -> Result<u16, Box<dyn Error>> {
         tally(source)?;
-        let integer = read_atom_exact(source, 0, u64::MAX)?.atom.nucleus.integer().ok_or("no integer")?;
+        let integer = read_atom(source, 0, u64::MAX)?.atom.nucleus.integer().ok_or("no integer")?;
         Ok(u16::try_from(integer)?)
     }
     assert_eq!(load(&[0x41, 0x2C, 0x01]).unwrap(), 300);
     assert_eq!(load(&[0x41, 0x2C]).unwrap_err().to_string(), "refusal 4 at 0: the input ends");
     assert_eq!(load(&[0x42, 0, 0, 1]).unwrap_err().to_string(), "refusal 8: the cast would lose data");
-    let stopped = read_atom_exact(&[0x07], 0, 0).unwrap_err();
+    let stopped = read_atom(&[0x07], 0, 0).unwrap_err();
     assert_eq!(Refused::from(stopped), tally(&[0x07]).unwrap_err());
     assert_eq!(load(&vec![0; 16_777_217]).unwrap_err().to_string(), "refusal 10: the input is too long");
 }
@@ -43,7 +43,7 @@ fn errors_of_each_function_become_one() {
 #[test]
 fn strings_are_lent_or_copied() {
     let source = [0xE2, 0x61, 0x62];
-    let lent = read_atom_exact(&source, 0, 2).unwrap().atom;
+    let lent = read_atom(&source, 0, 2).unwrap().atom;
     assert_eq!(lent.nucleus.bytes().unwrap().as_ptr(), source[1..].as_ptr());
     let mut scratch = [0; 4];
     let copied = read_atom_copied(&source, 0, 2, &mut scratch).unwrap().atom;
@@ -70,7 +70,7 @@ fn every_integer_comes_back() {
     let mut out = [0; 17];
     for value in [i128::MIN, i64::MIN.into(), -129, -1, 0, 1, 255, 1 << 23, i128::MAX] {
         let count = write_integer(&mut out, Integer::I128(value)).unwrap();
-        let read = read_atom_exact(&out[..count], 0, 16).unwrap().atom;
+        let read = read_atom(&out[..count], 0, 16).unwrap().atom;
         assert_eq!(read.nucleus.integer().unwrap().as_i128(), Ok(value));
     }
 }
@@ -99,6 +99,6 @@ fn specials_come_back() {
     for (special, nucleus) in nuclei {
         let mut out = [9; 1];
         assert_eq!(write_special(&mut out, special), Ok(1));
-        assert_eq!(read_atom_exact(&out, 0, 0).unwrap().atom.nucleus, nucleus);
+        assert_eq!(read_atom(&out, 0, 0).unwrap().atom.nucleus, nucleus);
     }
 }
