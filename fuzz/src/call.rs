@@ -51,7 +51,8 @@ impl Entry {
     /// The way by which the original is asked. The entry that names none has `IoReader`'s values, its strings lent.
     pub const fn way(self) -> Way {
         match self {
-            Self::Unnamed | Self::Exact => Way::ExactLent,
+            Self::Unnamed => Way::Unnamed,
+            Self::Exact => Way::ExactLent,
             Self::Filled => Way::Filled,
             Self::Copied => Way::ExactCopied,
         }
