@@ -60,6 +60,12 @@ place-again n place more = by (ltb n place) refl
         past-end n (n + more) (omega arith) ∙ sym (past-end n (place + more) (omega arith))
     by false h = refl
 
+-- what filled reading answers, exact reading answers too, or refuses for the end
+still-by : {X : Type 0} (Eof : X → Type 0) {length end : ℕ} {exactly filled x : X} →
+    Differ Eof length end exactly filled → filled ≡ x → (exactly ≡ x) ⊎ (Eof exactly × (length < end))
+still-by Eof (same like) f = inl (like ∙ f)
+still-by Eof (cut ended past) f = inr (ended, past)
+
 -- A HEADER THAT IS READ FILLED: what its bytes say, up to where it ends
 module _ (s : List ℕ) (place : ℕ) where
   pub header-filled :
@@ -146,22 +152,12 @@ module _ (s : List ℕ) (place : ℕ) (budget : Budget) (scratch : List ℕ) whe
       let whole = exact-whole after left atom (like ∙ f) in absurd (omega arith)
   refuses-by f past (cut ended within) = ended
 
-  still-by : {stop : Place} {left : Budget} {why : Refusal} →
-      Differ (Ended s) (length s) (atomEnd s place) (atomRead W.ExactLent s place budget scratch)
-      (atomRead W.Filled s place budget scratch) →
-      atomRead W.Filled s place budget scratch ≡ A.Refused stop left why →
-      (atomRead W.ExactLent s place budget scratch ≡ A.Refused stop left why)
-      ⊎ ((rest : Budget) × (atomRead W.ExactLent s place budget scratch ≡ A.Refused (endOf s) rest R.Eof)
-      × (length s < atomEnd s place))
-  still-by (same like) f = inl (like ∙ f)
-  still-by (cut (rest, e) past) f = inr (rest, e, past)
-
   pub atom-changes : AtomChanges s place budget scratch
   atom-changes = record {
     reads = λ e. exact-then-filled s place budget scratch _ _ _ e;
     cut = cut-by;
     refuses = λ f past. refuses-by f past (atom-differ s place budget scratch);
-    still = still-by (atom-differ s place budget scratch);
+    still = still-by (Ended s) (atom-differ s place budget scratch);
   }
 
 -- A HEADER, AND A SIGNATURE: each is taken up to an end
@@ -199,4 +195,5 @@ module _ (s : List ℕ) (place : ℕ) where
         let d = differ-cut _ (version-differ s place) (λ like. false≢true cc) in
         let ended = d .0 in
         (cc, d .1, cc, version-end after version (d .1) f);
+    still = still-by _ (version-differ s place);
   }

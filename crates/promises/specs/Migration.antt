@@ -56,7 +56,7 @@ pub record AtomChanges (s : List ℕ) (place : ℕ) (budget : Budget) (scratch :
   pub still : {stop : Place} {left : Budget} {why : Refusal} →
       atomRead W.Filled s place budget scratch ≡ A.Refused stop left why →
       (atomRead W.ExactLent s place budget scratch ≡ A.Refused stop left why)
-      ⊎ ((rest : Budget) × (atomRead W.ExactLent s place budget scratch ≡ A.Refused (endOf s) rest R.Eof)
+      ⊎ (((rest : Budget) × (atomRead W.ExactLent s place budget scratch ≡ A.Refused (endOf s) rest R.Eof))
       × (length s < atomEnd s place))
 
 -- an atom's header, which filled reading never refuses
@@ -77,6 +77,10 @@ pub record SignatureChanges (s : List ℕ) (place : ℕ) : Type 0 where
       versionRead W.Filled s place ≡ VA.Read after version →
       versionRead W.ExactLent s place ≡ VA.Refused stop why →
       (why ≡ R.Eof) × (length s < signatureEnd s place) × (stop ≡ endOf s) × (after ≡ endOf s)
+  pub still : {stop : Place} {why : Refusal} →
+      versionRead W.Filled s place ≡ VA.Refused stop why →
+      (versionRead W.ExactLent s place ≡ VA.Refused stop why)
+      ⊎ ((versionRead W.ExactLent s place ≡ VA.Refused (endOf s) R.Eof) × (length s < signatureEnd s place))
 
 -- WHY AN IMPORTER NAMES FILLED READING, "because its tool trimmed trailing zeros": of a file that was trimmed, `s`,
 -- what is left of a place in the whole one, and of an atom there: all but its places
