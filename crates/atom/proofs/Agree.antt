@@ -9,7 +9,7 @@ use borrow.Author.Tests.{leb-false}
 use lib.Dec.{leb}
 use lib.ListN.{length, drop}
 use Rattle.types.specs.Choice.{pick}
-use Rattle.types.specs.Ways.{exact, Differ, same, cut}
+use Rattle.types.specs.Ways.{exact}
 use Rattle.types.specs.Forms.{known, bodyLength, chargeOf, unknown}
 use Rattle.types.specs.declared.Way.{Way}
 use Rattle.types.specs.declared.Way.the-variants as W
@@ -26,7 +26,7 @@ use Rattle.types.specs.declared.BudgetAnswer.{BudgetAnswer}
 use Rattle.types.specs.declared.BudgetAnswer.the-variants as BA
 use Rattle.types.specs.declared.AtomAnswer.{AtomAnswer}
 use Rattle.types.specs.declared.AtomAnswer.the-variants as A
-use Rattle.types.proofs.Ways.{up-to-differ, differ-reads}
+use Rattle.types.proofs.Ways.{Differ, same, cut, up-to-differ, differ-reads}
 use Rattle.header.specs.Header.{headerFrom, headerKind, headerArgument, headerLength}
 use Rattle.little.specs.Le.{numberAt}
 use Rattle.header.proofs.Fewest.{length-bounds}

@@ -16,6 +16,7 @@ use Rattle.types.specs.Forms.{countOf, numberCharge, chargeOf, unsupported}
 use Rattle.types.specs.Forms as Forms
 use Rattle.types.proofs.Kind.{the-type}
 use Rattle.types.proofs.Specials.{special-below, special-above}
+use Rattle.types.proofs.Ways.{at-way}
 use Rattle.types.specs.declared.Way.{Way}
 use Rattle.types.specs.declared.Kind.{Kind}
 use Rattle.types.specs.declared.Kind.the-variants as K
@@ -291,7 +292,7 @@ module _ (way : Way) (s : List ℕ) (place : ℕ) (got : HeaderAnswer) (g : got 
 -- the entry that names no way
 pub unnamed : (way named : Way) (s : List ℕ) (place : ℕ) (budget : Budget) (scratch : List ℕ) (answer : AtomAnswer) →
     way ≡ named → answer ≡ atomRead way s place budget scratch → answer ≡ atomRead named s place budget scratch
-unnamed way named s place budget scratch answer w e = cc
+unnamed way named s place budget scratch answer = at-way (λ w. atomRead w s place budget scratch)
 
 pub ruleset atom-ends =
     (header-read, header-read-scratch, header-refused, header-refused-scratch, header-within, unnamed, needs)

@@ -27,6 +27,7 @@ use Rattle.types.specs.declared.HeaderAnswer.{HeaderAnswer}
 use Rattle.types.specs.declared.HeaderAnswer.the-variants as H
 use Rattle.types.specs.declared.VersionAnswer.{VersionAnswer}
 use Rattle.types.specs.declared.VersionAnswer.the-variants as VA
+use Rattle.types.proofs.Ways.{at-way}
 use Rattle.header.specs.Header.{laterCount, laterValue, laterFrom, argumentFrom}
 use Rattle.header.specs.Header.{headerKind, headerLength, headerArgument, headerFrom, headerRead}
 use Rattle.header.specs.Signature.{signature, bigEndian, judged, versionFrom, versionRead}
@@ -111,7 +112,7 @@ module _ (way : Way) (s : List ℕ) (place at : ℕ) (w : at ≡ placeIn (length
 -- the entry that names no way
 pub header-unnamed : (way named : Way) (s : List ℕ) (place : ℕ) (answer : HeaderAnswer) →
     way ≡ named → answer ≡ headerRead way s place → answer ≡ headerRead named s place
-header-unnamed way named s place answer w e = cc
+header-unnamed way named s place answer = at-way (λ w. headerRead w s place)
 
 pub ruleset header-ends = (header-short, header-long, header-eof, header-past, header-unnamed, needs)
 
@@ -157,6 +158,6 @@ module _ (way : Way) (s : List ℕ) (place at : ℕ) (w : at ≡ placeIn (length
 -- the entry that names no way
 pub version-unnamed : (way named : Way) (s : List ℕ) (place : ℕ) (answer : VersionAnswer) →
     way ≡ named → answer ≡ versionRead way s place → answer ≡ versionRead named s place
-version-unnamed way named s place answer w e = cc
+version-unnamed way named s place answer = at-way (λ w. versionRead w s place)
 
 pub ruleset version-ends = (version-whole, version-filled, version-eof, version-unnamed, needs)

@@ -4,14 +4,13 @@ use mathlib.Core.List.{List}
 use Prim.Native.Nat.{ℕ, _+_}
 use lib.ListN.{length, drop}
 use Rattle.types.specs.Counters.{placeIn}
-use Rattle.types.specs.Ways.{Differ}
 use Rattle.types.specs.declared.Way.the-variants as W
 use Rattle.types.specs.declared.Refusal.the-variants as R
 use Rattle.types.specs.declared.HeaderAnswer.{HeaderAnswer}
 use Rattle.types.specs.declared.HeaderAnswer.the-variants as H
 use Rattle.types.specs.declared.VersionAnswer.{VersionAnswer}
 use Rattle.types.specs.declared.VersionAnswer.the-variants as VA
-use Rattle.types.proofs.Ways.{up-to-differ}
+use Rattle.types.proofs.Ways.{Differ, up-to-differ}
 use Rattle.header.specs.Header.{headerRead, headerFrom, headerLength, headerKind, headerArgument}
 use Rattle.header.specs.Signature.{versionRead, versionFrom, judged, bigEndian}
 

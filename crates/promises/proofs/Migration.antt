@@ -13,7 +13,7 @@ use borrow.Author.Tests.{ltb-true, leb-true, leb-false}
 use Rattle.types.specs.Choice.{pick}
 use Rattle.types.specs.Counters.{placeIn}
 use Rattle.types.specs.Forms.{bodyLength, isString}
-use Rattle.types.specs.Ways.{upTo, Differ, same, cut}
+use Rattle.types.specs.Ways.{upTo}
 use Rattle.types.specs.declared.Way.the-variants as W
 use Rattle.types.specs.declared.Kind.{Kind}
 use Rattle.types.specs.declared.Place.{Place}
@@ -25,7 +25,7 @@ use Rattle.types.specs.declared.HeaderAnswer.the-variants as H
 use Rattle.types.specs.declared.VersionAnswer.the-variants as VA
 use Rattle.types.specs.declared.AtomAnswer.{AtomAnswer}
 use Rattle.types.specs.declared.AtomAnswer.the-variants as A
-use Rattle.types.proofs.Ways.{differ-reads, differ-cut}
+use Rattle.types.proofs.Ways.{Differ, same, cut, differ-reads, differ-cut}
 use Rattle.types.proofs.Counters.{place-same}
 use Rattle.header.specs.Header.{headerRead, headerFrom, headerKind, headerArgument}
 use Rattle.header.specs.Signature.{versionRead, versionFrom, judged, everyBit, signature, bigEndian}

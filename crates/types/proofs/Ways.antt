@@ -1,12 +1,12 @@
 -- The laws of the two ways of reading that every reader cites: what is taken within the source, what past its end.
-use mathlib.Core.Path.{_≡_, refl, _∙_, sym}
+use mathlib.Core.Path.{_≡_, refl, _∙_, sym, ap}
 use mathlib.Core.Bool.{Bool, true, false}
 use Prim.Native.Nat.{ℕ, _≤_, _<_}
 use native.Mathlib.Omega.{arith}
 use lib.Dec.{leb}
 use borrow.Author.Tests.{leb-true, leb-false, le-leb, lt-leb}
 use Rattle.types.specs.Choice.{pick}
-use Rattle.types.specs.Ways.{exact, upTo, Differ, same, cut}
+use Rattle.types.specs.Ways.{exact, upTo}
 use Rattle.types.specs.declared.Way.{Way}
 use Rattle.types.specs.declared.Way.the-variants as W
 
@@ -36,6 +36,12 @@ module _ {X : Type 0} (way : Way) (length end : ℕ) (taken : ℕ → X) (eof : 
       between false true f = rw e (h, omega arith)
       between false false f = rw (t length) (h, omega arith)
 
+-- WHAT THE TWO WAYS DIFFER IN, of what stands in a source of that length and ends, by its own bytes, at `end`: exact
+-- reading answers as filled reading does; or the source ends within it, and exact reading answers that
+pub data Differ {X : Type 0} (Eof : X → Type 0) (length end : ℕ) (exactly filled : X) : Type 0 where
+  same : exactly ≡ filled → Differ Eof length end exactly filled
+  cut : Eof exactly → length < end → Differ Eof length end exactly filled
+
 -- WHAT IS TAKEN UP TO AN END, THE TWO WAYS TAKE ALIKE, but where the source ends before it
 pub up-to-differ : {X : Type 0} (length end : ℕ) (taken : ℕ → X) (eof : X) (Eof : X → Type 0) → Eof eof →
     Differ Eof length end (upTo W.ExactLent length end taken eof) (upTo W.Filled length end taken eof)
@@ -58,3 +64,8 @@ pub differ-cut : {X : Type 0} (Eof : X → Type 0) {length end : ℕ} {exactly f
     Differ Eof length end exactly filled → (exactly ≡ filled → ⊥) → Eof exactly × (length < end)
 differ-cut Eof (same e) unlike = absurd (unlike e)
 differ-cut Eof (cut ended past) unlike = (ended, past)
+
+-- THE ENTRY THAT NAMES NO WAY reads as the one that is given its way
+pub at-way : {X : Type 0} (read : Way → X) {way named : Way} {answer : X} → way ≡ named → answer ≡ read way →
+    answer ≡ read named
+at-way read w e = e ∙ ap read w

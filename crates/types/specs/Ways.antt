@@ -1,6 +1,5 @@
 -- The ways of reading. Document 01, "Two ways of reading".
-use Prim.Native.Nat.{ℕ, _<_}
-use mathlib.Core.Path.{_≡_}
+use Prim.Native.Nat.{ℕ}
 use mathlib.Core.Bool.{Bool, true, false}
 use lib.Dec.{leb}
 use Rattle.types.specs.Choice.{pick}
@@ -21,9 +20,3 @@ unnamedWay = W.ExactLent
 -- byte past the end reads as zero and the place stops at the end"; exact: "anything past the end is refused".
 abbrev pub upTo : {X : Type 0} → Way → ℕ → ℕ → (ℕ → X) → X → X
 upTo way length end taken eof = pick (leb end length) (taken end) (pick (exact way) eof (taken length))
-
--- WHAT THE TWO WAYS DIFFER IN, of what stands in a source of that length and ends, by its own bytes, at `end`: exact
--- reading answers as filled reading does; or the source ends within it, and exact reading answers that
-pub data Differ {X : Type 0} (Eof : X → Type 0) (length end : ℕ) (exactly filled : X) : Type 0 where
-  same : exactly ≡ filled → Differ Eof length end exactly filled
-  cut : Eof exactly → length < end → Differ Eof length end exactly filled
