@@ -1,5 +1,7 @@
 // One atom: its header, its charge, and its body, in the order of document 01, "Charges". format.rs, `read_atom` to
 // `update_budget`.
+#![tactic(auto)]
+
 ghost use Rattle.std.specs.Prelude.{◌≡◌, true, [], ◌≤◌, ◌<◌, ◌+◌, ◌-◌, ◌^◌, length};
 ghost use Rattle.types.specs.Ways.{unnamed_way};
 ghost use Rattle.types.specs.Counters.{places_of};

@@ -1,5 +1,7 @@
 // IEEE 754 binary16, binary32 and binary64 on bits: widening, exact narrowing, and the float value of a pattern.
 // A NaN's sign and payload live in patterns only: as a value there is one NaN.
+#![tactic(auto)]
+
 ghost use Rattle.std.specs.Prelude.{◌≡◌, ◌<◌};
 ghost use Rattle.std.specs.Float.{binary32, binary64};
 ghost use Rattle.std.specs.Float.Ieee.{of_bits, to_bits};
@@ -13,14 +15,14 @@ ghost use Rattle.binary.specs.Conversions.{
 };
 
 // The binary16 pattern of a binary32 value, if there is one.
-#[derive(Drop)]
+#[derive(Clone, Copy)]
 pub enum Narrowed16 {
     Pattern(u16),
     None,
 }
 
 // The binary32 pattern of a binary64 value, if there is one.
-#[derive(Drop)]
+#[derive(Clone, Copy)]
 pub enum Narrowed32 {
     Pattern(u32),
     None,

@@ -1,5 +1,7 @@
 // Zero, equality, checked casts and `From` of an integer, after `impl Integer` and `impl From` of format.rs. Document
 // 01, "Casts": each cast goes by variant, and refuses with 8 what its type does not hold.
+#![tactic(auto)]
+
 ghost use Rattle.std.specs.Prelude.{◌≡◌, ◌&&◌, eqb, pos};
 ghost use mir.Syntax.{signed, unsigned, w8, w16, w32, w64, w128};
 ghost use Rattle.types.specs.Values.{joined, joined_signed, wide_of};
@@ -14,6 +16,7 @@ use types::{
 };
 
 // Whether the value is 0.
+#[tactic(auto, using(crate::proofs::Zeros::zero_ends))]
 pub fn is_zero(x: Integer) -> bool
     ensures { result ≡ is_zero x }
 {
@@ -42,6 +45,7 @@ pub fn is_zero(x: Integer) -> bool
 }
 
 // Whether the words are the same.
+#[tactic(auto, using(crate::proofs::Wides::word_tests))]
 fn same_words(a: Wide, b: Wide) -> bool
     ensures { result ≡ (eqb a.hi b.hi && eqb a.lo b.lo) }
 {
@@ -52,6 +56,7 @@ fn same_words(a: Wide, b: Wide) -> bool
 }
 
 // Whether variant and value are the same, and signed.
+#[tactic(auto, using(crate::proofs::Equality::variant_ends))]
 fn equal_signed(a: Integer, b: Integer) -> bool
     ensures { result ≡ equal_of signed a b }
 {
@@ -81,6 +86,7 @@ fn equal_signed(a: Integer, b: Integer) -> bool
 }
 
 // Whether variant and value are the same, and unsigned.
+#[tactic(auto, using(crate::proofs::Equality::variant_ends))]
 fn equal_unsigned(a: Integer, b: Integer) -> bool
     ensures { result ≡ equal_of unsigned a b }
 {
@@ -110,6 +116,7 @@ fn equal_unsigned(a: Integer, b: Integer) -> bool
 }
 
 // Whether variant and value are the same.
+#[tactic(auto, using(crate::proofs::Equality::equal_ends))]
 pub fn equal(a: Integer, b: Integer) -> bool
     ensures { result ≡ equal_integers a b }
 {
@@ -120,6 +127,7 @@ pub fn equal(a: Integer, b: Integer) -> bool
 }
 
 // The two words of a signed number.
+#[tactic(auto, using(crate::proofs::Wides::wide_of_ends))]
 pub fn wide_of_i64(value: i64) -> Wide
     ensures { result ≡ wide_of value }
 {
@@ -136,6 +144,7 @@ pub fn wide_of_i64(value: i64) -> Wide
 }
 
 // The two words of an unsigned number.
+#[tactic(auto, using(crate::proofs::Wides::wide_of_ends))]
 pub fn wide_of_u64(value: u64) -> Wide
     ensures { result ≡ wide_of (pos value) }
 {
@@ -143,6 +152,7 @@ pub fn wide_of_u64(value: u64) -> Wide
 }
 
 // The words of a value that is the same signed and unsigned: the top bit is clear.
+#[tactic(auto, using(crate::proofs::Wides::word_tests))]
 fn kept_words(value: Wide) -> AsWide
     ensures { result ≡ kept_words value }
 {
@@ -153,6 +163,7 @@ fn kept_words(value: Wide) -> AsWide
 }
 
 // The value as an i8, or refusal 8 if it does not fit.
+#[tactic(auto, using(crate::proofs::Arms::cast_arms))]
 pub fn as_i8(x: Integer) -> AsI8
     ensures { result ≡ as_i8 x }
 {
@@ -176,6 +187,7 @@ pub fn as_i8(x: Integer) -> AsI8
 }
 
 // The value as a u8, or refusal 8 if it does not fit.
+#[tactic(auto, using(crate::proofs::Arms::cast_arms))]
 pub fn as_u8(x: Integer) -> AsU8
     ensures { result ≡ as_u8 x }
 {
@@ -199,6 +211,7 @@ pub fn as_u8(x: Integer) -> AsU8
 }
 
 // The value as an i16, or refusal 8 if it does not fit.
+#[tactic(auto, using(crate::proofs::Arms::cast_arms))]
 pub fn as_i16(x: Integer) -> AsI16
     ensures { result ≡ as_i16 x }
 {
@@ -222,6 +235,7 @@ pub fn as_i16(x: Integer) -> AsI16
 }
 
 // The value as a u16, or refusal 8 if it does not fit.
+#[tactic(auto, using(crate::proofs::Arms::cast_arms))]
 pub fn as_u16(x: Integer) -> AsU16
     ensures { result ≡ as_u16 x }
 {
@@ -250,6 +264,7 @@ pub fn as_u16(x: Integer) -> AsU16
 }
 
 // The value as an i32, or refusal 8 if it does not fit.
+#[tactic(auto, using(crate::proofs::Arms::cast_arms))]
 pub fn as_i32(x: Integer) -> AsI32
     ensures { result ≡ as_i32 x }
 {
@@ -271,6 +286,7 @@ pub fn as_i32(x: Integer) -> AsI32
 }
 
 // The value as a u32, or refusal 8 if it does not fit.
+#[tactic(auto, using(crate::proofs::Arms::cast_arms))]
 pub fn as_u32(x: Integer) -> AsU32
     ensures { result ≡ as_u32 x }
 {
@@ -302,6 +318,7 @@ pub fn as_u32(x: Integer) -> AsU32
 }
 
 // The value as an i64, or refusal 8 if it does not fit.
+#[tactic(auto, using(crate::proofs::Arms::cast_arms))]
 pub fn as_i64(x: Integer) -> AsI64
     ensures { result ≡ as_i64 x }
 {
@@ -326,6 +343,7 @@ pub fn as_i64(x: Integer) -> AsI64
 }
 
 // The value as a u64, or refusal 8 if it does not fit.
+#[tactic(auto, using(crate::proofs::Arms::cast_arms))]
 pub fn as_u64(x: Integer) -> AsU64
     ensures { result ≡ as_u64 x }
 {
@@ -365,6 +383,7 @@ pub fn as_u64(x: Integer) -> AsU64
 }
 
 // The value as an i128, or refusal 8 if it does not fit.
+#[tactic(auto, using(crate::proofs::Arms::wide_arms))]
 pub fn as_i128(x: Integer) -> AsWide
     ensures { result ≡ as_i128 x }
 {
@@ -383,6 +402,7 @@ pub fn as_i128(x: Integer) -> AsWide
 }
 
 // The value as a u128, or refusal 8 if it does not fit.
+#[tactic(auto, using(crate::proofs::Arms::wide_arms))]
 pub fn as_u128(x: Integer) -> AsWide
     ensures { result ≡ as_u128 x }
 {
@@ -421,6 +441,7 @@ pub fn as_u128(x: Integer) -> AsWide
 }
 
 // The value as an f32, or refusal 8 if it is not one of the whole numbers that an f32 counts without a gap.
+#[tactic(auto, using(crate::proofs::Floats::float_ends))]
 pub fn as_f32(x: Integer) -> AsF32
     ensures { result ≡ as_f32 x }
 {
@@ -439,6 +460,7 @@ pub fn as_f32(x: Integer) -> AsF32
 }
 
 // The value as an f64, or refusal 8 if it is not one of the whole numbers that an f64 counts without a gap.
+#[tactic(auto, using(crate::proofs::Floats::float_ends))]
 pub fn as_f64(x: Integer) -> AsF64
     ensures { result ≡ as_f64 x }
 {
@@ -457,6 +479,7 @@ pub fn as_f64(x: Integer) -> AsF64
 }
 
 // The value as an f32, or else as an f64.
+#[tactic(auto, using(crate::proofs::Floats::either_float))]
 pub fn as_float(x: Integer) -> AsFloat
     ensures { result ≡ as_float x }
 {
@@ -470,12 +493,14 @@ pub fn as_float(x: Integer) -> AsFloat
 }
 
 // `From`: the narrowest variant that holds the value. An unsigned value tries the unsigned type of half the width.
+#[tactic(auto, using(crate::proofs::Halves::unsigned_from))]
 pub fn from_u8(byte: u8) -> Integer
     ensures { result ≡ from unsigned w8 (pos byte) }
 {
     Integer::U8(byte)
 }
 
+#[tactic(auto, using(crate::proofs::Halves::unsigned_from))]
 pub fn from_u16(value: u16) -> Integer
     ensures { result ≡ from unsigned w16 (pos value) }
 {
@@ -485,6 +510,7 @@ pub fn from_u16(value: u16) -> Integer
     Integer::U16(value)
 }
 
+#[tactic(auto, using(crate::proofs::Halves::unsigned_from))]
 pub fn from_u32(value: u32) -> Integer
     ensures { result ≡ from unsigned w32 (pos value) }
 {
@@ -494,6 +520,7 @@ pub fn from_u32(value: u32) -> Integer
     Integer::U32(value)
 }
 
+#[tactic(auto, using(crate::proofs::Halves::unsigned_from))]
 pub fn from_u64(value: u64) -> Integer
     ensures { result ≡ from unsigned w64 (pos value) }
 {
@@ -503,6 +530,7 @@ pub fn from_u64(value: u64) -> Integer
     Integer::U64(value)
 }
 
+#[tactic(auto, using(crate::proofs::Halves::wide_from_ends))]
 pub fn from_u128(value: Wide) -> Integer
     ensures { result ≡ from unsigned w128 (pos (joined value)) }
 {
@@ -513,12 +541,14 @@ pub fn from_u128(value: Wide) -> Integer
 }
 
 // A signed value tries the signed type of half the width, and then the unsigned one.
+#[tactic(auto, using(crate::proofs::Halves::signed_from))]
 pub fn from_i8(byte: i8) -> Integer
     ensures { result ≡ from signed w8 byte }
 {
     Integer::I8(byte)
 }
 
+#[tactic(auto, using(crate::proofs::Halves::signed_from))]
 pub fn from_i16(value: i16) -> Integer
     ensures { result ≡ from signed w16 value }
 {
@@ -534,6 +564,7 @@ pub fn from_i16(value: i16) -> Integer
     Integer::I16(value)
 }
 
+#[tactic(auto, using(crate::proofs::Halves::signed_from))]
 pub fn from_i32(value: i32) -> Integer
     ensures { result ≡ from signed w32 value }
 {
@@ -549,6 +580,7 @@ pub fn from_i32(value: i32) -> Integer
     Integer::I32(value)
 }
 
+#[tactic(auto, using(crate::proofs::Halves::signed_from))]
 pub fn from_i64(value: i64) -> Integer
     ensures { result ≡ from signed w64 value }
 {
@@ -565,6 +597,7 @@ pub fn from_i64(value: i64) -> Integer
 }
 
 // The words of a value that fits an i64 are its own and its sign's.
+#[tactic(auto, using(crate::proofs::Halves::wide_from_ends))]
 pub fn from_i128(value: Wide) -> Integer
     ensures { result ≡ from signed w128 (joined_signed value) }
 {

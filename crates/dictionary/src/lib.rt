@@ -1,5 +1,7 @@
 // A dictionary file: the step that builds no value, the run over a file's atoms, and the tally. Document 01, "Two ways
 // of reading" and "Tally"; document 02, K1 and K2.
+#![tactic(auto)]
+
 ghost use Rattle.std.specs.Prelude.{◌≡◌, true, false, suc, ◌≤◌, ◌<◌, ◌+◌, ◌-◌, length, take, drop};
 ghost use Rattle.types.specs.Choice.{pick};
 ghost use Rattle.types.specs.Counters.{places_of, no_places};

@@ -1,5 +1,7 @@
 // The library's functions on numbers and slices alone, for programs of other languages: each answers a number, 0 or the
 // refusal's, and writes twelve words, as `words.Layout` says. A float goes in and out as its bits.
+#![tactic(auto)]
+
 ghost use Rattle.std.specs.Prelude.{◌≡◌, not, [], eqb, ltb};
 ghost use Rattle.std.specs.Float.{binary32, binary64};
 ghost use Rattle.std.specs.Float.Ieee.{of_bits};

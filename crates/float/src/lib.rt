@@ -1,5 +1,7 @@
 // Floats read from bytes and written into a lent buffer, and what a float answers of itself: whether it is zero, its
 // casts and its equality. Document 01, "Bytes of an atom" and "Casts"; format.rs, `write_f32`, `write_f64` and `Float`.
+#![tactic(auto)]
+
 ghost use Rattle.std.specs.Prelude.{true, ◌≡◌, ◌+◌, ◌<◌, ◌≤◌, ◌^◌, length};
 ghost use Rattle.std.specs.Float.{binary32, binary64};
 ghost use Rattle.std.specs.Float.Ieee.{to_bits};

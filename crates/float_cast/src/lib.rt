@@ -1,5 +1,7 @@
 // A float as an integer. Document 01, "Casts"; format.rs, `Float::as_integer`. Both widths go by the binary64 pattern
 // of their value: the exponent says where the whole number ends.
+#![tactic(auto)]
+
 ghost use Rattle.std.specs.Prelude.{◌≡◌, ◌<◌, ◌^◌};
 ghost use Rattle.std.specs.Int.{w32, w64};
 ghost use Rattle.binary.specs.Formats.{double, magnitude, meaning};

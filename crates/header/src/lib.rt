@@ -1,5 +1,7 @@
 // The atom header and the file's signature, read under each way and written into a lent buffer. Document 01, "Bytes of
 // an atom"; format.rs, `write_atom_header` to `read_header`.
+#![tactic(auto)]
+
 ghost use Rattle.std.specs.Prelude.{◌≡◌, ◌∷◌, ◌≤◌, ◌<◌, ◌+◌, ◌*◌, ◌^◌, ltb, length, drop, get_or};
 ghost use Rattle.types.specs.declared.Kind.{Kind};
 ghost use Rattle.types.specs.Kinds.{kind_from, kind_known};

@@ -1,5 +1,7 @@
 // Integers read from bytes. Document 01, "Bytes of an atom"; format.rs, `Integer::read_from`. The functions that have a
 // `requires` are helpers of the readers here and of the atom's, which judge the count and the room first.
+#![tactic(auto)]
+
 ghost use Rattle.std.specs.Prelude.{◌≡◌, true, ◌+◌, ◌≤◌, ◌<◌, length};
 ghost use Rattle.little.specs.Le.{number_at};
 ghost use Rattle.types.specs.Values.{words};

@@ -1,5 +1,7 @@
 // The letters of a string. Document 01, "Tally", by document 02, K2: a byte outside 0x80 to 0xBF is a letter, but for
 // the first byte of a pair that is a combining mark.
+#![tactic(auto)]
+
 ghost use Rattle.std.specs.Prelude.{◌≡◌, ◌≤◌, ◌<◌, ◌+◌, length, drop};
 ghost use Rattle.letters.specs.Letters.{between, letter, mark, letters};
 ghost use Rattle.letters.specs.Joins.{lead};
@@ -14,6 +16,7 @@ struct Part {
 
 // 1 for a byte outside 0x80 to 0xBF, else 0: a choice without a branch, so that a loop over it takes many bytes at a
 // time.
+#[tactic(auto, using(crate::proofs::Counting::byte_ends))]
 fn letter_of(byte: u8) -> u8
     ensures { (result ≡ letter byte) × (result ≤ 1) }
 {
@@ -24,6 +27,7 @@ fn letter_of(byte: u8) -> u8
 }
 
 // 1 for a byte that a mark may begin with, else 0.
+#[tactic(auto, using(crate::proofs::Counting::lead_ends))]
 fn lead_of(byte: u8) -> u8
     ensures { (result ≡ one (lead byte)) × (result ≤ 1) }
 {
@@ -34,6 +38,7 @@ fn lead_of(byte: u8) -> u8
 }
 
 // 1 for a byte from 0x80 to `last`, else 0.
+#[tactic(auto, using(crate::proofs::Counting::byte_ends))]
 fn is_within(byte: u8, last: u8) -> u8
     ensures { result ≡ one (between 0x80 byte last) }
 {
@@ -44,6 +49,7 @@ fn is_within(byte: u8, last: u8) -> u8
 }
 
 // 1 for a pair of bytes that is a mark, else 0.
+#[tactic(auto, using(crate::proofs::Counting::mark_ends))]
 fn mark_of(byte: u8, next: u8) -> u8
     ensures { result ≡ one (mark byte next) }
 {
@@ -68,6 +74,7 @@ fn part_end(length: usize, i: usize) -> usize
 }
 
 // The letters from one place to another, which are right where no mark begins there.
+#[tactic(auto, using(crate::proofs::Counting::part_ends))]
 fn letters_in_part(string: &[u8], from: usize, to: usize) -> Part
     requires { (from ≤ to) × (to ≤ length string.now) × (to ≤ from + 192) }
     ensures { (result.leads ≡ 0 →
@@ -86,6 +93,7 @@ fn letters_in_part(string: &[u8], from: usize, to: usize) -> Part
 }
 
 // The letters from one place to another, the byte after each looked at.
+#[tactic(auto, using(crate::proofs::Counting::pair_ends))]
 fn letters_by_pairs(string: &[u8], from: usize, to: usize) -> u8
     requires { (from ≤ to) × (to < length string.now) × (to ≤ from + 192) }
     ensures { (result + letters (drop to string.now) ≡ letters (drop from string.now)) × (result + from ≤ to) }
@@ -100,6 +108,7 @@ fn letters_by_pairs(string: &[u8], from: usize, to: usize) -> u8
 }
 
 // The letters from a place on, of a string where marks may begin: its last byte has none after it.
+#[tactic(auto, using(crate::proofs::Counting::pairs_ends))]
 fn count_by_pairs(string: &[u8], from: usize) -> u64
     requires { from < length string.now }
     ensures { (result ≡ letters (drop from string.now)) × (result + from ≤ length string.now) }
@@ -116,6 +125,7 @@ fn count_by_pairs(string: &[u8], from: usize) -> u64
 }
 
 // The letters of a string, part by part; pair by pair from the first part on in which a mark may begin.
+#[tactic(auto, using(crate::proofs::Counting::string_ends))]
 pub fn count_letters(string: &[u8]) -> u64
     ensures { (result ≡ letters string.now) × (result ≤ length string.now) }
 {
@@ -141,6 +151,7 @@ fn larger(a: u8, b: u8) -> u8
 }
 
 // The largest of four bytes.
+#[tactic(auto, using(crate::proofs::Largest::largest_ends))]
 fn largest_of_4(string: &[u8], at: usize) -> u8
     requires { at + 4 ≤ length string.now }
     ensures { AtMost result string.now at (at + 4) }
@@ -152,6 +163,7 @@ fn largest_of_4(string: &[u8], at: usize) -> u8
 }
 
 // The largest of eight.
+#[tactic(auto, using(crate::proofs::Largest::largest_ends))]
 fn largest_of_8(string: &[u8], at: usize) -> u8
     requires { at + 8 ≤ length string.now }
     ensures { AtMost result string.now at (at + 8) }
@@ -160,6 +172,7 @@ fn largest_of_8(string: &[u8], at: usize) -> u8
 }
 
 // The largest byte of a short string, by the same steps for many lengths: a loop's end would not be foreseen.
+#[tactic(auto, using(crate::proofs::Largest::largest_ends))]
 fn largest_of_few(string: &[u8]) -> u8
     requires { length string.now ≤ 16 }
     ensures { AtMost result string.now 0 (length string.now) }
@@ -178,6 +191,7 @@ fn largest_of_few(string: &[u8]) -> u8
 }
 
 // The letters of a string that is likely a word: a short one of ASCII alone has as many as bytes.
+#[tactic(auto, using(crate::proofs::Largest::ascii_ends))]
 pub fn count_word(string: &[u8]) -> u64
     ensures { (result ≡ letters string.now) × (result ≤ length string.now) }
 {

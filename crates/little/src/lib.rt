@@ -1,6 +1,8 @@
 // Little-endian numbers over the byte count, and two's complement: straight-line reads and writes. Document 01, "Bytes
 // of an atom": "little endian, Int in two's complement". Helpers of the integer and float crates: a function here that
 // has a `requires` leaves that judgement to its caller.
+#![tactic(auto)]
+
 ghost use Rattle.std.specs.Prelude.{◌≡◌, ◌∷◌, ◌++◌, ◌+◌, ◌<◌, ◌≤◌, ◌^◌, length, get_or};
 ghost use Rattle.lent.specs.Lent.{written_answer, written_content};
 ghost use Rattle.little.specs.Le.{to_le, number_at, filled_at};

@@ -1,5 +1,7 @@
 // The reads that move bytes: strings, lent or copied, the part that a delivery mark says, and the raw byte read of both
 // readers. Document 01, "Two ways of reading", and reader.rs.
+#![tactic(auto)]
+
 ghost use Rattle.std.specs.Prelude.{◌≡◌};
 ghost use Rattle.reader.specs.Parts.{part_of, pointer_of, marked_bytes, marked_pointer};
 ghost use Rattle.reader.specs.Strings.{lent_string, copied_string, copied_scratch, string_answer, string_scratch};

@@ -1,5 +1,7 @@
 // Integers that come in as numbers, and casts that name their target by a number. The numbers are those of
 // `words.Layout.variant_code`.
+#![tactic(auto)]
+
 ghost use Rattle.std.specs.Prelude.{◌≡◌};
 ghost use mir.Syntax.{signed, unsigned, w8, w16, w32, w64, w128};
 ghost use Rattle.recast.specs.Recasts.{cast_to, recast, from_words, integer_of_words};

@@ -1,5 +1,7 @@
 // A request of oracle/FORMAT.md, answered from the proved functions as the oracle answers it: each code goes to the
 // crate that has its entry. A code that none has is not answered.
+#![tactic(auto)]
+
 use replay_wire::{Cursor, Reply};
 
 // Answers a request of a reader or of a whole file, whose code was read.

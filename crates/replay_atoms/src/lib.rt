@@ -1,5 +1,7 @@
 // The requests about an atom and the budget, answered from the proved functions: 20, 27 and 28 of oracle/FORMAT.md.
 // Test machinery: proved is that every request is taken and every answer ends.
+#![tactic(auto)]
+
 use replay_wire::{Asked, Cursor, Reply};
 use types::{Atom, AtomAnswer, Budget, BudgetAnswer, Nucleus};
 

@@ -1,5 +1,7 @@
 // The requests about an integer's casts, equality and conversions, answered from the proved functions: 30 to 3d, 3f and
 // 40 to 49 of oracle/FORMAT.md. Test machinery: proved is that every request is taken and every answer ends.
+#![tactic(auto)]
+
 use replay_wire::{Cursor, Reply};
 use types::{
     AsF32, AsF64, AsFloat, AsI8, AsI16, AsI32, AsI64, AsU8, AsU16, AsU32, AsU64, AsWide, Integer,

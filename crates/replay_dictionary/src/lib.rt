@@ -1,6 +1,8 @@
 // The requests about a whole file and about the step over one atom, answered from the proved functions: the run, the
 // tally, the step and the check for shortest form, 29, 2a, 2c and 2d of oracle/FORMAT.md. Test machinery: proved is
 // that every request is taken and every answer ends.
+#![tactic(auto)]
+
 use replay_wire::{Cursor, Reply};
 use types::{Budget, Checked, Place, Places, Ran, Skipped, Tallied, TallyAnswer};
 

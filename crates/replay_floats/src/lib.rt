@@ -1,5 +1,7 @@
 // The requests that read, write, cast and compare floats, answered from the proved functions: 22, 50 to 55, 76 and 77
 // of oracle/FORMAT.md. Test machinery: proved is that every request is taken and every answer ends.
+#![tactic(auto)]
+
 use replay_wire::{Cursor, Reply};
 use types::{AsF32, AsInteger, FloatAnswer, Written};
 

@@ -1,5 +1,7 @@
 // The requests about codes, headers and signatures, answered from the proved functions: 1, 2 and 10 to 13 of
 // oracle/FORMAT.md. Test machinery: proved is that every request is taken and every answer ends.
+#![tactic(auto)]
+
 use replay_wire::{Asked, Cursor, Reply};
 use types::{HeaderAnswer, Kind, KindAnswer, Special, SpecialAnswer, VersionAnswer};
 

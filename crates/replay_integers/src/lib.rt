@@ -1,5 +1,7 @@
 // The request that reads an integer, answered from the proved function: 21 of oracle/FORMAT.md. Test machinery: proved
 // is that every request is taken and every answer ends.
+#![tactic(auto)]
+
 use replay_wire::{Cursor, Reply};
 use types::IntegerAnswer;
 

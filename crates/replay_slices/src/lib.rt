@@ -1,5 +1,7 @@
 // The requests about the reader that holds the slice still to be read, answered from the proved functions: 26 and 2b of
 // oracle/FORMAT.md. Test machinery: proved is that every request is taken and every answer ends.
+#![tactic(auto)]
+
 use replay_wire::{Cursor, Reply};
 use types::{AtomAnswer, Budget, Kind, Place};
 

@@ -1,5 +1,7 @@
 // The requests that move bytes, answered from the proved functions: 23 to 25 of oracle/FORMAT.md. Test machinery:
 // proved is that every request is taken and every answer ends.
+#![tactic(auto)]
+
 use replay_wire::{Cursor, Reply};
 use types::{BytesAnswer, Place, RawAnswer, Way};
 

@@ -1,6 +1,8 @@
 // Replays the vectors, oracle/vectors: each request is answered from the proved functions and the answer compared with
 // the oracle's, topic by topic. Proved is that every text is judged and judging ends, and that each line is counted
 // once.
+#![tactic(auto)]
+
 ghost use Rattle.std.specs.Prelude.{◌≡◌, ◌+◌, ◌<◌, ◌^◌, ◌≤◌, length};
 ghost use Rattle.replay_vectors.specs.Counted.{Counted};
 

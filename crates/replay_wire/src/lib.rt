@@ -2,6 +2,8 @@
 // lent buffer, and a vector is taken apart into its request and its answer. Test machinery: what is proved is that
 // every function takes every input and ends, and the bounds that callers need; that a field is read and put as
 // FORMAT.md says is seen by the vectors alone, whose answers would differ.
+#![tactic(auto)]
+
 mod fields;
 mod lines;
 mod put;

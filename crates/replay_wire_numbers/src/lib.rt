@@ -1,5 +1,7 @@
 // The fields that are numbers, oracle/FORMAT.md: wides, integers by variant, floats by their bits. Test machinery:
 // proved is that every function takes every input and ends.
+#![tactic(auto)]
+
 use replay_wire::{Cursor, Reply};
 use types::{AsWide, Float, Integer, Wide};
 

@@ -1,5 +1,7 @@
 // The requests that write integers, specials and strings, answered from the proved functions: 3e, 60 to 6d and 70 to 75
 // of oracle/FORMAT.md. Test machinery: proved is that every request is taken and every answer ends.
+#![tactic(auto)]
+
 use replay_wire::{Cursor, Reply};
 use types::{Integer, Special, SpecialAnswer, Written};
 

@@ -1,4 +1,6 @@
 // What the tally program finds of a file. Document 01, "Tally".
+#![tactic(auto)]
+
 ghost use Rattle.std.specs.Prelude.{◌≡◌, ◌≤◌, length};
 ghost use Rattle.report.specs.Reports.{counted, report_of};
 ghost use Rattle.report.specs.Reports.{after_signature};

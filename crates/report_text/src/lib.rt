@@ -1,5 +1,7 @@
 // The text that the tally program prints of a file. Document 01, "Tally". The lines are put together in a buffer of
 // their own, which holds the longest text, so that the room of the whole is judged before any of it is written.
+#![tactic(auto)]
+
 ghost use Rattle.std.specs.Prelude.{◌≡◌, ◌++◌, ◌≤◌, ◌+◌, length, take};
 ghost use Rattle.io.specs.Counts.{IsPrefixLen};
 ghost use Rattle.lent.specs.Lent.{written_answer, written_content};

@@ -1,5 +1,7 @@
 // The check for shortest form: whether each atom of a list is whole and known, and takes the fewest bytes for what it
 // means. Document 02, K3.
+#![tactic(auto)]
+
 ghost use Rattle.std.specs.Prelude.{◌≡◌, true, not, ◌&&◌, ◌+◌, ◌*◌, ◌^◌, ◌≤◌, ◌<◌, eqb, leb, length};
 ghost use Rattle.types.specs.Forms.{allowed_count, allowed_float};
 ghost use Rattle.little.specs.Le.{number_at};

@@ -10,6 +10,8 @@
 // `len_of` to `rest_after_atom`, make a reader of a slice, let it do one thing and hand back what is plain of it. They
 // are for a caller that wants the reader's own word without a proof by hand: the replay, whose loop over a sequence of
 // reads goes by them, so that the reader's functions are held to the original's.
+#![tactic(auto)]
+
 ghost use Rattle.std.specs.Prelude.{◌≡◌, eqb, length};
 ghost use Rattle.slice_reader.specs.Left.{LeftOf};
 ghost use Rattle.slice_reader.specs.Given.{integer_given, float_given, string_given, atom_given};

@@ -1,5 +1,7 @@
 // The tally program: reads one file from standard input and writes its text. Document 01, "Tally". What the text is
 // says the contract of `report_text::report_into`; what is left here is to read and to write.
+#![tactic(auto)]
+
 ghost use Rattle.std.specs.Prelude.{◌≡◌, length};
 
 use libc::{STDIN_FILENO, STDOUT_FILENO};

@@ -1,6 +1,8 @@
 // Test machinery: whole files read and many values written in one call, for the race against the original in `bench/`.
 // Every value read is folded into a checksum that the original's side folds alike. It is proved to be safe and to end,
 // not to be right: the race compares what the two sides answer.
+#![tactic(auto)]
+
 ghost use Rattle.std.specs.Prelude.{◌≤◌};
 
 use types::{

@@ -2,6 +2,8 @@
 // from it: the edges by hand from document 02's K2, "the pair CC with 80 to BF, or CD with 80 to AF (U+0300 to U+036F),
 // counts as no letter. Every other byte outside 80 to BF counts one, as before, also CC or CD before any other byte or at
 // the string's end.", and the texts by counting their characters outside U+0300 to U+036F.
+#![tactic(auto)]
+
 ghost use Rattle.std.specs.Prelude.{◌≡◌, ◌<◌, length};
 
 use libc::{STDIN_FILENO, STDOUT_FILENO};

@@ -6,6 +6,8 @@
 // or number byte past the end reads as zero and the place stops at the end", and of refusal 4 "end of slice; charged if
 // a body was being read". K1: "its first place, the place where its body starts and the place after it". K4: "The entry
 // that names no way now reads exactly, strings lent".
+#![tactic(auto)]
+
 use libc::STDOUT_FILENO;
 use types::{Atom, AtomAnswer, Budget, Mark, Nucleus, Place, Way};
 

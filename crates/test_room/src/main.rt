@@ -2,6 +2,8 @@
 // answered with a buffer of just so many bytes, which a writer writes into and a reader copies a string into. Each byte
 // of the buffer is a5 before, so that behind the answer the whole buffer shows which bytes were touched. The answers
 // that the program is held to were worked out from document 01's text apart from it, not taken from what it writes.
+#![tactic(auto)]
+
 use libc::{STDIN_FILENO, STDOUT_FILENO};
 use replay_wire::{Cursor, Reply};
 

@@ -1,6 +1,8 @@
 // The test of reader.rs, `slice_reader_pub_methods`, over two bytes: one reader is held from the first byte to the end,
 // as the original holds it, and what each read answers is taken out of what the read gave. A byte is read as an integer
 // of one byte, as `read_exact` into one byte does.
+#![tactic(auto)]
+
 ghost use Rattle.std.specs.Prelude.{◌≡◌};
 ghost use Rattle.test_slice_reader.specs.Held.{held_over};
 

@@ -1,6 +1,8 @@
 // Runs what the tally program writes on its cases: document 01's example, K2's marks, each refusal that it gives, the
 // edges of its length, and numbers of several digits. The texts that it is held to were worked out by hand from document
 // 01 and document 02's K2.
+#![tactic(auto)]
+
 ghost use Rattle.std.specs.Prelude.{◌≡◌, ◌≤◌, length};
 
 use libc::STDOUT_FILENO;

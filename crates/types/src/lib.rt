@@ -2,6 +2,8 @@
 // atoms, the refusals and the answers. Document 01: "Bytes of an atom", "Two ways of reading", "Refusals by number".
 // Answers that a reader gives have the place (and the budget) first in every case, so that each case lays them at the
 // same offset.
+#![tactic(auto)]
+
 ghost use Rattle.std.specs.Prelude.{◌≡◌, ◌≤◌, ◌<◌};
 ghost use Rattle.types.specs.Kinds.{kind_code, kind_from, special_code, special_from};
 ghost use Rattle.types.specs.Forms.{unsupported};
@@ -10,7 +12,7 @@ ghost use Rattle.types.specs.Ways.{exact, unnamed_way};
 ghost use Rattle.types.specs.Counters.{place_in};
 
 // The type of an atom.
-#[derive(Drop)]
+#[derive(Clone, Copy)]
 pub enum Kind {
     // A value with a special meaning.
     Special,
@@ -31,7 +33,7 @@ pub enum Kind {
 }
 
 // A special value type.
-#[derive(Drop)]
+#[derive(Clone, Copy)]
 pub enum Special {
     None,
     Unit,
@@ -47,7 +49,7 @@ pub enum Special {
 
 // The way of reading. Filled reads zero past the end; exact refuses. A string is lent as a part of the source, or
 // copied into scratch; filled reading lends it.
-#[derive(Drop)]
+#[derive(Clone, Copy)]
 pub enum Way {
     Filled,
     ExactLent,
@@ -55,26 +57,26 @@ pub enum Way {
 }
 
 // A place in the file.
-#[derive(Drop)]
+#[derive(Clone, Copy)]
 pub struct Place(pub usize);
 
 // A number of body bytes: all after an atom's header.
-#[derive(Drop)]
+#[derive(Clone, Copy)]
 pub struct BodyBytes(pub u64);
 
 // What is left of the memory budget.
-#[derive(Drop)]
+#[derive(Clone, Copy)]
 pub struct Budget(pub u64);
 
 // A 128-bit value as two 64-bit words; of a signed value, its two's complement.
-#[derive(Drop)]
+#[derive(Clone, Copy)]
 pub struct Wide {
     pub lo: u64,
     pub hi: u64,
 }
 
 // An integer, by variant.
-#[derive(Drop)]
+#[derive(Clone, Copy)]
 pub enum Integer {
     I8(i8),
     I16(i16),
@@ -89,14 +91,14 @@ pub enum Integer {
 }
 
 // A float carries its value.
-#[derive(Drop)]
+#[derive(Clone, Copy)]
 pub enum Float {
     F64(f64),
     F32(f32),
 }
 
 // Where a string's bytes are: a part of the source if lent, else of the scratch.
-#[derive(Drop)]
+#[derive(Clone, Copy)]
 pub struct Mark {
     pub start: usize,
     pub len: usize,
@@ -104,7 +106,7 @@ pub struct Mark {
 }
 
 // What an atom holds. Beside a float's value stand its stored bits, since a NaN's sign and payload are in these alone.
-#[derive(Drop)]
+#[derive(Clone, Copy)]
 pub enum Nucleus {
     None,
     Boolean(bool),
@@ -118,7 +120,7 @@ pub enum Nucleus {
 }
 
 // Where an atom stands in its source: its first place, the place where its body starts and the place after it.
-#[derive(Drop)]
+#[derive(Clone, Copy)]
 pub struct Places {
     pub first: Place,
     pub body: Place,
@@ -126,7 +128,7 @@ pub struct Places {
 }
 
 // A kind, its argument, its places, and the value that follows, if any.
-#[derive(Drop)]
+#[derive(Clone, Copy)]
 pub struct Atom {
     pub kind: Kind,
     pub arg: u64,
@@ -135,7 +137,7 @@ pub struct Atom {
 }
 
 // The refusals, in the order of their numbers from 1 on.
-#[derive(Drop)]
+#[derive(Clone, Copy)]
 pub enum Refusal {
     IncompatibleVersion,
     InvalidKind(u8),
@@ -150,72 +152,72 @@ pub enum Refusal {
     NotShortest,
 }
 
-#[derive(Drop)]
+#[derive(Clone, Copy)]
 pub enum KindAnswer {
     Known(Kind),
     Refused(Refusal),
 }
 
-#[derive(Drop)]
+#[derive(Clone, Copy)]
 pub enum SpecialAnswer {
     Known(Special),
     Refused(Refusal),
 }
 
 // What a writer answers: how many bytes it wrote.
-#[derive(Drop)]
+#[derive(Clone, Copy)]
 pub enum Written {
     Count(usize),
     Refused(Refusal),
 }
 
-#[derive(Drop)]
+#[derive(Clone, Copy)]
 pub enum HeaderAnswer {
     Read(Place, Kind, u64),
     Refused(Place, Refusal),
 }
 
 // What reading the signature answers: the version.
-#[derive(Drop)]
+#[derive(Clone, Copy)]
 pub enum VersionAnswer {
     Read(Place, u8),
     Refused(Place, Refusal),
 }
 
-#[derive(Drop)]
+#[derive(Clone, Copy)]
 pub enum IntegerAnswer {
     Read(Place, Integer),
     Refused(Place, Refusal),
 }
 
 // What reading a float answers: its value, and its stored bits.
-#[derive(Drop)]
+#[derive(Clone, Copy)]
 pub enum FloatAnswer {
     Read(Place, Float, u64),
     Refused(Place, Refusal),
 }
 
 // What reading a string answers.
-#[derive(Drop)]
+#[derive(Clone, Copy)]
 pub enum BytesAnswer {
     Read(Place, Mark),
     Refused(Place, Refusal),
 }
 
 // What a raw read into a lent buffer answers: how many bytes of the buffer it filled.
-#[derive(Drop)]
+#[derive(Clone, Copy)]
 pub enum RawAnswer {
     Read(Place, usize),
     Refused(Place, Refusal),
 }
 
-#[derive(Drop)]
+#[derive(Clone, Copy)]
 pub enum AtomAnswer {
     Read(Place, Budget, Atom),
     Refused(Place, Budget, Refusal),
 }
 
-#[derive(Drop)]
+#[derive(Clone, Copy)]
 pub enum BudgetAnswer {
     Left(Budget),
     Refused(Refusal),
@@ -223,7 +225,7 @@ pub enum BudgetAnswer {
 
 // What the step that builds no value answers: the place after the atom, the budget left, the atom's places, and whether
 // it is a string.
-#[derive(Drop)]
+#[derive(Clone, Copy)]
 pub enum Skipped {
     Past(Place, Budget, Places, bool),
     Refused(Place, Budget, Refusal),
@@ -231,14 +233,14 @@ pub enum Skipped {
 
 // What a run answers: the place, the budget left, the number of atoms read and the places of the last of them, zeros if
 // there was none; of a refused atom also its refusal, and the place where it starts.
-#[derive(Drop)]
+#[derive(Clone, Copy)]
 pub enum Ran {
     Done(Place, Budget, u64, Places),
     Stopped(Place, Budget, u64, Places, Refusal, Place),
 }
 
 // What a file holds: its atoms, their body bytes, their charges and the letters of their strings.
-#[derive(Drop)]
+#[derive(Clone, Copy)]
 pub struct Tallied {
     pub atoms: u64,
     pub body: BodyBytes,
@@ -248,7 +250,7 @@ pub struct Tallied {
 
 // What a tally answers: the places of the last atom that it read, zeros if there was none; then what the file holds, or
 // of a refused atom its refusal and the place where it starts. An input that is too long is refused before any is read.
-#[derive(Drop)]
+#[derive(Clone, Copy)]
 pub enum TallyAnswer {
     Done(Places, Tallied),
     Stopped(Places, Refusal, Place),
@@ -256,86 +258,86 @@ pub enum TallyAnswer {
 }
 
 // What the check for shortest form answers: of a refused atom its refusal, and the place where it starts.
-#[derive(Drop)]
+#[derive(Clone, Copy)]
 pub enum Checked {
     Accepted,
     Refused(Refusal, Place),
 }
 
-#[derive(Drop)]
+#[derive(Clone, Copy)]
 pub enum AsI8 {
     Value(i8),
     Refused(Refusal),
 }
 
-#[derive(Drop)]
+#[derive(Clone, Copy)]
 pub enum AsI16 {
     Value(i16),
     Refused(Refusal),
 }
 
-#[derive(Drop)]
+#[derive(Clone, Copy)]
 pub enum AsI32 {
     Value(i32),
     Refused(Refusal),
 }
 
-#[derive(Drop)]
+#[derive(Clone, Copy)]
 pub enum AsI64 {
     Value(i64),
     Refused(Refusal),
 }
 
 // A 128-bit value, signed or unsigned.
-#[derive(Drop)]
+#[derive(Clone, Copy)]
 pub enum AsWide {
     Value(Wide),
     Refused(Refusal),
 }
 
-#[derive(Drop)]
+#[derive(Clone, Copy)]
 pub enum AsU8 {
     Value(u8),
     Refused(Refusal),
 }
 
-#[derive(Drop)]
+#[derive(Clone, Copy)]
 pub enum AsU16 {
     Value(u16),
     Refused(Refusal),
 }
 
-#[derive(Drop)]
+#[derive(Clone, Copy)]
 pub enum AsU32 {
     Value(u32),
     Refused(Refusal),
 }
 
-#[derive(Drop)]
+#[derive(Clone, Copy)]
 pub enum AsU64 {
     Value(u64),
     Refused(Refusal),
 }
 
-#[derive(Drop)]
+#[derive(Clone, Copy)]
 pub enum AsF32 {
     Value(f32),
     Refused(Refusal),
 }
 
-#[derive(Drop)]
+#[derive(Clone, Copy)]
 pub enum AsF64 {
     Value(f64),
     Refused(Refusal),
 }
 
-#[derive(Drop)]
+#[derive(Clone, Copy)]
 pub enum AsFloat {
     Value(Float),
     Refused(Refusal),
 }
 
-#[derive(Drop)]
+#[derive(Clone, Copy)]
 pub enum AsInteger {
     Value(Integer),
     Refused(Refusal),

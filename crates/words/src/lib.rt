@@ -1,5 +1,7 @@
 // Answers as numbers, for programs of other languages: each is a number, 0 or the refusal's, and twelve words in a lent
 // array. The layout is `specs/Layout.antt`.
+#![tactic(auto)]
+
 ghost use Rattle.std.specs.Prelude.{◌≡◌};
 ghost use Rattle.types.specs.Choice.{pick};
 ghost use Rattle.words.specs.Layout.{says, says_at, laid, datum, number_of, words_of, integer_words, value_bits, nucleus_words, float_words};

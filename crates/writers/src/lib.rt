@@ -1,6 +1,8 @@
 // The writers of numbers, specials and strings into a lent buffer. Document 01, "Bytes of an atom" and "Refusals by
 // number"; format.rs, `write_special` to `write_bytes`, and `Integer::write_to`. A writer of a number tries the next
 // smaller one first, so that it writes the smallest count that holds the value.
+#![tactic(auto)]
+
 ghost use Rattle.std.specs.Prelude.{◌≡◌};
 ghost use Rattle.std.specs.Int.Signed.{mag};
 ghost use Rattle.types.specs.declared.Special.TheVariants.{None, Unit, Named};

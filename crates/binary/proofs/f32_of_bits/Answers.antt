@@ -1,0 +1,8 @@
+use Rattle.binary.proofs.Nan.{float_ends}
+use Rattle.binary.proofs.f32_of_bits.Goals as goal
+
+pub float_from_bits-result : goal.float_from_bits-result
+float_from_bits-result c = search float_ends
+
+pub returns-else-b-le2139095040 : goal.returns-else-b-le2139095040
+returns-else-b-le2139095040 c = search float_ends
