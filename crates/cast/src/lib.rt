@@ -16,7 +16,6 @@ use types::{
 };
 
 // Whether the value is 0.
-#[tactic(auto, using(crate::proofs::Zeros::zero_ends))]
 pub fn is_zero(x: Integer) -> bool
     ensures { result ≡ is_zero x }
 {
@@ -45,7 +44,6 @@ pub fn is_zero(x: Integer) -> bool
 }
 
 // Whether the words are the same.
-#[tactic(auto, using(crate::proofs::Wides::word_tests))]
 fn same_words(a: Wide, b: Wide) -> bool
     ensures { result ≡ (eqb a.hi b.hi && eqb a.lo b.lo) }
 {
@@ -56,7 +54,6 @@ fn same_words(a: Wide, b: Wide) -> bool
 }
 
 // Whether variant and value are the same, and signed.
-#[tactic(auto, using(crate::proofs::Equality::variant_ends))]
 fn equal_signed(a: Integer, b: Integer) -> bool
     ensures { result ≡ equal_of signed a b }
 {
@@ -86,7 +83,6 @@ fn equal_signed(a: Integer, b: Integer) -> bool
 }
 
 // Whether variant and value are the same, and unsigned.
-#[tactic(auto, using(crate::proofs::Equality::variant_ends))]
 fn equal_unsigned(a: Integer, b: Integer) -> bool
     ensures { result ≡ equal_of unsigned a b }
 {
@@ -116,7 +112,6 @@ fn equal_unsigned(a: Integer, b: Integer) -> bool
 }
 
 // Whether variant and value are the same.
-#[tactic(auto, using(crate::proofs::Equality::equal_ends))]
 pub fn equal(a: Integer, b: Integer) -> bool
     ensures { result ≡ equal_integers a b }
 {
@@ -127,7 +122,6 @@ pub fn equal(a: Integer, b: Integer) -> bool
 }
 
 // The two words of a signed number.
-#[tactic(auto, using(crate::proofs::Wides::wide_of_ends))]
 pub fn wide_of_i64(value: i64) -> Wide
     ensures { result ≡ wide_of value }
 {
@@ -144,7 +138,6 @@ pub fn wide_of_i64(value: i64) -> Wide
 }
 
 // The two words of an unsigned number.
-#[tactic(auto, using(crate::proofs::Wides::wide_of_ends))]
 pub fn wide_of_u64(value: u64) -> Wide
     ensures { result ≡ wide_of (pos value) }
 {
@@ -152,7 +145,6 @@ pub fn wide_of_u64(value: u64) -> Wide
 }
 
 // The words of a value that is the same signed and unsigned: the top bit is clear.
-#[tactic(auto, using(crate::proofs::Wides::word_tests))]
 fn kept_words(value: Wide) -> AsWide
     ensures { result ≡ kept_words value }
 {
@@ -163,7 +155,6 @@ fn kept_words(value: Wide) -> AsWide
 }
 
 // The value as an i8, or refusal 8 if it does not fit.
-#[tactic(auto, using(crate::proofs::Arms::cast_arms))]
 pub fn as_i8(x: Integer) -> AsI8
     ensures { result ≡ as_i8 x }
 {
@@ -187,7 +178,6 @@ pub fn as_i8(x: Integer) -> AsI8
 }
 
 // The value as a u8, or refusal 8 if it does not fit.
-#[tactic(auto, using(crate::proofs::Arms::cast_arms))]
 pub fn as_u8(x: Integer) -> AsU8
     ensures { result ≡ as_u8 x }
 {
@@ -211,7 +201,6 @@ pub fn as_u8(x: Integer) -> AsU8
 }
 
 // The value as an i16, or refusal 8 if it does not fit.
-#[tactic(auto, using(crate::proofs::Arms::cast_arms))]
 pub fn as_i16(x: Integer) -> AsI16
     ensures { result ≡ as_i16 x }
 {
@@ -235,7 +224,6 @@ pub fn as_i16(x: Integer) -> AsI16
 }
 
 // The value as a u16, or refusal 8 if it does not fit.
-#[tactic(auto, using(crate::proofs::Arms::cast_arms))]
 pub fn as_u16(x: Integer) -> AsU16
     ensures { result ≡ as_u16 x }
 {
@@ -264,7 +252,6 @@ pub fn as_u16(x: Integer) -> AsU16
 }
 
 // The value as an i32, or refusal 8 if it does not fit.
-#[tactic(auto, using(crate::proofs::Arms::cast_arms))]
 pub fn as_i32(x: Integer) -> AsI32
     ensures { result ≡ as_i32 x }
 {
@@ -286,7 +273,6 @@ pub fn as_i32(x: Integer) -> AsI32
 }
 
 // The value as a u32, or refusal 8 if it does not fit.
-#[tactic(auto, using(crate::proofs::Arms::cast_arms))]
 pub fn as_u32(x: Integer) -> AsU32
     ensures { result ≡ as_u32 x }
 {
@@ -318,7 +304,6 @@ pub fn as_u32(x: Integer) -> AsU32
 }
 
 // The value as an i64, or refusal 8 if it does not fit.
-#[tactic(auto, using(crate::proofs::Arms::cast_arms))]
 pub fn as_i64(x: Integer) -> AsI64
     ensures { result ≡ as_i64 x }
 {
@@ -343,7 +328,6 @@ pub fn as_i64(x: Integer) -> AsI64
 }
 
 // The value as a u64, or refusal 8 if it does not fit.
-#[tactic(auto, using(crate::proofs::Arms::cast_arms))]
 pub fn as_u64(x: Integer) -> AsU64
     ensures { result ≡ as_u64 x }
 {
@@ -383,7 +367,6 @@ pub fn as_u64(x: Integer) -> AsU64
 }
 
 // The value as an i128, or refusal 8 if it does not fit.
-#[tactic(auto, using(crate::proofs::Arms::wide_arms))]
 pub fn as_i128(x: Integer) -> AsWide
     ensures { result ≡ as_i128 x }
 {
@@ -402,7 +385,6 @@ pub fn as_i128(x: Integer) -> AsWide
 }
 
 // The value as a u128, or refusal 8 if it does not fit.
-#[tactic(auto, using(crate::proofs::Arms::wide_arms))]
 pub fn as_u128(x: Integer) -> AsWide
     ensures { result ≡ as_u128 x }
 {
@@ -441,7 +423,6 @@ pub fn as_u128(x: Integer) -> AsWide
 }
 
 // The value as an f32, or refusal 8 if it is not one of the whole numbers that an f32 counts without a gap.
-#[tactic(auto, using(crate::proofs::Floats::float_ends))]
 pub fn as_f32(x: Integer) -> AsF32
     ensures { result ≡ as_f32 x }
 {
@@ -460,7 +441,6 @@ pub fn as_f32(x: Integer) -> AsF32
 }
 
 // The value as an f64, or refusal 8 if it is not one of the whole numbers that an f64 counts without a gap.
-#[tactic(auto, using(crate::proofs::Floats::float_ends))]
 pub fn as_f64(x: Integer) -> AsF64
     ensures { result ≡ as_f64 x }
 {
@@ -479,7 +459,6 @@ pub fn as_f64(x: Integer) -> AsF64
 }
 
 // The value as an f32, or else as an f64.
-#[tactic(auto, using(crate::proofs::Floats::either_float))]
 pub fn as_float(x: Integer) -> AsFloat
     ensures { result ≡ as_float x }
 {
@@ -493,14 +472,12 @@ pub fn as_float(x: Integer) -> AsFloat
 }
 
 // `From`: the narrowest variant that holds the value. An unsigned value tries the unsigned type of half the width.
-#[tactic(auto, using(crate::proofs::Halves::unsigned_from))]
 pub fn from_u8(byte: u8) -> Integer
     ensures { result ≡ from unsigned w8 (pos byte) }
 {
     Integer::U8(byte)
 }
 
-#[tactic(auto, using(crate::proofs::Halves::unsigned_from))]
 pub fn from_u16(value: u16) -> Integer
     ensures { result ≡ from unsigned w16 (pos value) }
 {
@@ -510,7 +487,6 @@ pub fn from_u16(value: u16) -> Integer
     Integer::U16(value)
 }
 
-#[tactic(auto, using(crate::proofs::Halves::unsigned_from))]
 pub fn from_u32(value: u32) -> Integer
     ensures { result ≡ from unsigned w32 (pos value) }
 {
@@ -520,7 +496,6 @@ pub fn from_u32(value: u32) -> Integer
     Integer::U32(value)
 }
 
-#[tactic(auto, using(crate::proofs::Halves::unsigned_from))]
 pub fn from_u64(value: u64) -> Integer
     ensures { result ≡ from unsigned w64 (pos value) }
 {
@@ -530,7 +505,6 @@ pub fn from_u64(value: u64) -> Integer
     Integer::U64(value)
 }
 
-#[tactic(auto, using(crate::proofs::Halves::wide_from_ends))]
 pub fn from_u128(value: Wide) -> Integer
     ensures { result ≡ from unsigned w128 (pos (joined value)) }
 {
@@ -541,14 +515,12 @@ pub fn from_u128(value: Wide) -> Integer
 }
 
 // A signed value tries the signed type of half the width, and then the unsigned one.
-#[tactic(auto, using(crate::proofs::Halves::signed_from))]
 pub fn from_i8(byte: i8) -> Integer
     ensures { result ≡ from signed w8 byte }
 {
     Integer::I8(byte)
 }
 
-#[tactic(auto, using(crate::proofs::Halves::signed_from))]
 pub fn from_i16(value: i16) -> Integer
     ensures { result ≡ from signed w16 value }
 {
@@ -564,7 +536,6 @@ pub fn from_i16(value: i16) -> Integer
     Integer::I16(value)
 }
 
-#[tactic(auto, using(crate::proofs::Halves::signed_from))]
 pub fn from_i32(value: i32) -> Integer
     ensures { result ≡ from signed w32 value }
 {
@@ -580,7 +551,6 @@ pub fn from_i32(value: i32) -> Integer
     Integer::I32(value)
 }
 
-#[tactic(auto, using(crate::proofs::Halves::signed_from))]
 pub fn from_i64(value: i64) -> Integer
     ensures { result ≡ from signed w64 value }
 {
@@ -597,7 +567,6 @@ pub fn from_i64(value: i64) -> Integer
 }
 
 // The words of a value that fits an i64 are its own and its sign's.
-#[tactic(auto, using(crate::proofs::Halves::wide_from_ends))]
 pub fn from_i128(value: Wide) -> Integer
     ensures { result ≡ from signed w128 (joined_signed value) }
 {

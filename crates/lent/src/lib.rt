@@ -8,7 +8,6 @@ ghost use Rattle.lent.specs.Lent.{written_answer, written_content, copied_over};
 use types::{Refusal, Written};
 
 // Writes one byte.
-#[tactic(auto, using(crate::proofs::Ends::written_ends))]
 pub fn put_one(out: &mut [u8], byte: u8) -> Written
     ensures value { result ≡ written_answer (byte ∷ []) out.old }
     ensures out_after { out.new ≡ written_content (byte ∷ []) out.old }
@@ -21,7 +20,6 @@ pub fn put_one(out: &mut [u8], byte: u8) -> Written
 }
 
 // Copies a source that has its room, byte by byte.
-#[tactic(auto, using(crate::proofs::Ends::copying))]
 fn copy_each(out: &mut [u8], source: &[u8])
     requires { length source.now ≤ length out.old }
     ensures { out.new ≡ copied_over source.now out.old }
@@ -35,7 +33,6 @@ fn copy_each(out: &mut [u8], source: &[u8])
 
 // Copies a source of at most 4,096 bytes that has its room, by way of a block of its own: nothing else lies over that,
 // so the two loops are compiled to one call of the system's copy, or to plain moves where the length is known before.
-#[tactic(auto, using(crate::proofs::Copies::block_ends))]
 fn copy_piece(out: &mut [u8], source: &[u8])
     requires source_len_bound { length source.now ≤ 4096 }
     requires source_in_bounds { length source.now ≤ length out.old }
@@ -48,7 +45,6 @@ fn copy_piece(out: &mut [u8], source: &[u8])
 }
 
 // Copies a source of `count` bytes to twice as many that has its room: its first `count`, and its last over them.
-#[tactic(auto, using(crate::proofs::Copies::copies))]
 fn copy_ends(out: &mut [u8], source: &[u8], count: usize)
     requires count_in_bounds { (count ≤ length source.now) × (length source.now ≤ count + count) × (count ≤ 4096) }
     requires source_in_bounds { length source.now ≤ length out.old }
@@ -60,7 +56,6 @@ fn copy_ends(out: &mut [u8], source: &[u8], count: usize)
 }
 
 // Copies at most three bytes that have their room: the first, the middle one and the last, which may be the same.
-#[tactic(auto, using(crate::proofs::Copies::few_ends))]
 fn copy_few(out: &mut [u8], source: &[u8])
     requires source_len_bound { length source.now < 4 }
     requires source_in_bounds { length source.now ≤ length out.old }
@@ -112,7 +107,6 @@ fn copy_middle(out: &mut [u8], source: &[u8])
 
 // Copies a source of any length that has its room: as one piece, or else its halves. It calls itself, so that it stays
 // out of line: a loop would be inlined and unrolled, at the cost of the short copies.
-#[tactic(auto, using(crate::proofs::Copies::copies))]
 fn copy_halves(out: &mut [u8], source: &[u8])
     requires { length source.now ≤ length out.old }
     ensures { out.new ≡ copied_over source.now out.old }
@@ -129,7 +123,6 @@ fn copy_halves(out: &mut [u8], source: &[u8])
 
 // Copies a source that has its room: a helper of readers and writers, which judge the room of the whole first. The last
 // call lends both anew, whole, so that they are laid on the stack for it there and not on every way.
-#[tactic(auto, using(crate::proofs::Copies::copies))]
 pub fn copy_in(out: &mut [u8], source: &[u8])
     requires { length source.now ≤ length out.old }
     ensures { out.new ≡ copied_over source.now out.old }
@@ -151,7 +144,6 @@ pub fn copy_in(out: &mut [u8], source: &[u8])
 }
 
 // Writes a list of bytes as it is.
-#[tactic(auto, using(crate::proofs::Ends::written_ends))]
 pub fn put_all(out: &mut [u8], source: &[u8]) -> Written
     ensures value { result ≡ written_answer source.now out.old }
     ensures out_after { out.new ≡ written_content source.now out.old }

@@ -8,7 +8,7 @@ ghost use Rattle.letters.specs.Joins.{lead};
 ghost use Rattle.letters.specs.Parts.{one, AtMost};
 
 // The letters of a part, as far as its bytes alone tell them, and how many of its bytes may begin a mark.
-#[derive(Drop)]
+#[derive(Clone, Copy)]
 struct Part {
     letters: u8,
     leads: u8,
@@ -16,7 +16,6 @@ struct Part {
 
 // 1 for a byte outside 0x80 to 0xBF, else 0: a choice without a branch, so that a loop over it takes many bytes at a
 // time.
-#[tactic(auto, using(crate::proofs::Counting::byte_ends))]
 fn letter_of(byte: u8) -> u8
     ensures { (result ≡ letter byte) × (result ≤ 1) }
 {
@@ -27,7 +26,6 @@ fn letter_of(byte: u8) -> u8
 }
 
 // 1 for a byte that a mark may begin with, else 0.
-#[tactic(auto, using(crate::proofs::Counting::lead_ends))]
 fn lead_of(byte: u8) -> u8
     ensures { (result ≡ one (lead byte)) × (result ≤ 1) }
 {
@@ -38,7 +36,6 @@ fn lead_of(byte: u8) -> u8
 }
 
 // 1 for a byte from 0x80 to `last`, else 0.
-#[tactic(auto, using(crate::proofs::Counting::byte_ends))]
 fn is_within(byte: u8, last: u8) -> u8
     ensures { result ≡ one (between 0x80 byte last) }
 {
@@ -49,7 +46,6 @@ fn is_within(byte: u8, last: u8) -> u8
 }
 
 // 1 for a pair of bytes that is a mark, else 0.
-#[tactic(auto, using(crate::proofs::Counting::mark_ends))]
 fn mark_of(byte: u8, next: u8) -> u8
     ensures { result ≡ one (mark byte next) }
 {
@@ -74,7 +70,6 @@ fn part_end(length: usize, i: usize) -> usize
 }
 
 // The letters from one place to another, which are right where no mark begins there.
-#[tactic(auto, using(crate::proofs::Counting::part_ends))]
 fn letters_in_part(string: &[u8], from: usize, to: usize) -> Part
     requires { (from ≤ to) × (to ≤ length string.now) × (to ≤ from + 192) }
     ensures { (result.leads ≡ 0 →
@@ -93,7 +88,6 @@ fn letters_in_part(string: &[u8], from: usize, to: usize) -> Part
 }
 
 // The letters from one place to another, the byte after each looked at.
-#[tactic(auto, using(crate::proofs::Counting::pair_ends))]
 fn letters_by_pairs(string: &[u8], from: usize, to: usize) -> u8
     requires { (from ≤ to) × (to < length string.now) × (to ≤ from + 192) }
     ensures { (result + letters (drop to string.now) ≡ letters (drop from string.now)) × (result + from ≤ to) }
@@ -108,7 +102,6 @@ fn letters_by_pairs(string: &[u8], from: usize, to: usize) -> u8
 }
 
 // The letters from a place on, of a string where marks may begin: its last byte has none after it.
-#[tactic(auto, using(crate::proofs::Counting::pairs_ends))]
 fn count_by_pairs(string: &[u8], from: usize) -> u64
     requires { from < length string.now }
     ensures { (result ≡ letters (drop from string.now)) × (result + from ≤ length string.now) }
@@ -125,7 +118,6 @@ fn count_by_pairs(string: &[u8], from: usize) -> u64
 }
 
 // The letters of a string, part by part; pair by pair from the first part on in which a mark may begin.
-#[tactic(auto, using(crate::proofs::Counting::string_ends))]
 pub fn count_letters(string: &[u8]) -> u64
     ensures { (result ≡ letters string.now) × (result ≤ length string.now) }
 {
@@ -151,7 +143,6 @@ fn larger(a: u8, b: u8) -> u8
 }
 
 // The largest of four bytes.
-#[tactic(auto, using(crate::proofs::Largest::largest_ends))]
 fn largest_of_4(string: &[u8], at: usize) -> u8
     requires { at + 4 ≤ length string.now }
     ensures { AtMost result string.now at (at + 4) }
@@ -163,7 +154,6 @@ fn largest_of_4(string: &[u8], at: usize) -> u8
 }
 
 // The largest of eight.
-#[tactic(auto, using(crate::proofs::Largest::largest_ends))]
 fn largest_of_8(string: &[u8], at: usize) -> u8
     requires { at + 8 ≤ length string.now }
     ensures { AtMost result string.now at (at + 8) }
@@ -172,7 +162,6 @@ fn largest_of_8(string: &[u8], at: usize) -> u8
 }
 
 // The largest byte of a short string, by the same steps for many lengths: a loop's end would not be foreseen.
-#[tactic(auto, using(crate::proofs::Largest::largest_ends))]
 fn largest_of_few(string: &[u8]) -> u8
     requires { length string.now ≤ 16 }
     ensures { AtMost result string.now 0 (length string.now) }
@@ -191,7 +180,6 @@ fn largest_of_few(string: &[u8]) -> u8
 }
 
 // The letters of a string that is likely a word: a short one of ASCII alone has as many as bytes.
-#[tactic(auto, using(crate::proofs::Largest::ascii_ends))]
 pub fn count_word(string: &[u8]) -> u64
     ensures { (result ≡ letters string.now) × (result ≤ length string.now) }
 {

@@ -1,0 +1,10 @@
+-- `letters::count_by_pairs` meets its contract: what was counted, with what is left, is the whole.
+use Prim.Native.Nat.{◌-◌}
+use Rattle.letters.proofs.Counting.{Counting, pairs_ends}
+use Rattle.letters.proofs.count_by_pairs.Given as goal
+
+abbrev pub invariant-loop-i : goal.invariant-loop-i
+invariant-loop-i l = Counting l.string l.from l.last l.count 0 l.i
+
+abbrev pub decreases-loop-i : goal.decreases-loop-i
+decreases-loop-i l = l.last - l.i
