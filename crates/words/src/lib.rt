@@ -16,14 +16,14 @@ use types::{
 };
 
 // An integer: its variant, and its value in two's complement.
-#[derive(Drop)]
+#[derive(Clone, Copy)]
 pub struct IntegerWords {
     pub variant: u64,
     pub value: Wide,
 }
 
 // What an atom holds: its case, and three words.
-#[derive(Drop)]
+#[derive(Clone, Copy)]
 pub struct NucleusWords {
     pub case: u64,
     pub first: u64,
