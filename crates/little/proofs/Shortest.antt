@@ -1,5 +1,5 @@
 -- The first of a list that passes a test, over any list and any test: it passes, and no smaller one of the list does.
-use mathlib.Core.Path.{◌≡◌, refl, ◌∙◌, sym, ap}
+use mathlib.Core.Path.{◌≡◌, refl, ◌∙◌, sym, ap, subst}
 use mathlib.Core.Bool.{Bool, true, false, false≢true}
 use mathlib.Core.List.{List, [], ◌∷◌}
 use Prim.Native.Nat.{ℕ, ◌<◌, ◌^◌}
@@ -68,7 +68,10 @@ module _ (p : ℕ → Bool) where
   unfolding listed first_that
   listed_at d ds c true u e f ih l h = rw (e, eq-eqb d d refl)
   listed_at d ds c false true e f ih l h = absurd (false≢true (sym e ∙ ap p (sym (eqb-true c d f)) ∙ h))
-  listed_at d ds c false false e f ih l h = rw (e, ih (rw f at l)) (either (eqb (first_that p ds) d))
+  listed_at d ds c false false e f ih l h =
+      let q : first_that p (d ∷ ds) ≡ first_that p ds = rw e refl in
+      let here : listed (first_that p ds) (d ∷ ds) ≡ true = rw (ih (rw f at l)) (either (eqb (first_that p ds) d)) in
+      subst (λ (x : ℕ). listed x (d ∷ ds) ≡ true) (sym q) here
 
   pub first_listed : (l : List ℕ) (c : ℕ) → listed c l ≡ true → p c ≡ true → listed (first_that p l) l ≡ true
   unfolding listed

@@ -1,0 +1,21 @@
+-- `words::say_as_integer` meets its contract: each arm says its case of the answer.
+use borrow.Author.Rules.{rules}
+use Rattle.words.specs.Layout.{said_as_integer}
+use Rattle.words.proofs.Ends.{number_said, words_said, parts}
+use Rattle.words.proofs.say_as_integer.Goals as goal
+
+pub returns-in-Value-clause-value : goal.returns-in-Value-clause-value
+unfolding said_as_integer
+returns-in-Value-clause-value c = search (number_said said_as_integer, words_said said_as_integer, parts)
+
+pub returns-in-Value-clause-words_after : goal.returns-in-Value-clause-words_after
+unfolding said_as_integer
+returns-in-Value-clause-words_after c = search (number_said said_as_integer, words_said said_as_integer, parts)
+
+pub returns-in-Refused-clause-value : goal.returns-in-Refused-clause-value
+unfolding said_as_integer
+returns-in-Refused-clause-value c = search (number_said said_as_integer, words_said said_as_integer, parts)
+
+pub returns-in-Refused-clause-words_after : goal.returns-in-Refused-clause-words_after
+unfolding said_as_integer
+returns-in-Refused-clause-words_after c = search (number_said said_as_integer, words_said said_as_integer, parts)

@@ -1,0 +1,21 @@
+-- `words::say_atom` meets its contract: each arm says its case of the answer.
+use borrow.Author.Rules.{rules}
+use Rattle.words.specs.Layout.{said_atom}
+use Rattle.words.proofs.Ends.{number_said, words_said, parts}
+use Rattle.words.proofs.say_atom.Goals as goal
+
+pub returns-in-Read-clause-value : goal.returns-in-Read-clause-value
+unfolding said_atom
+returns-in-Read-clause-value c = search (number_said said_atom, parts, words_said said_atom)
+
+pub returns-in-Read-clause-words_after : goal.returns-in-Read-clause-words_after
+unfolding said_atom
+returns-in-Read-clause-words_after c = search (number_said said_atom, parts, words_said said_atom)
+
+pub returns-in-Refused-clause-value : goal.returns-in-Refused-clause-value
+unfolding said_atom
+returns-in-Refused-clause-value c = search (number_said said_atom, parts, words_said said_atom)
+
+pub returns-in-Refused-clause-words_after : goal.returns-in-Refused-clause-words_after
+unfolding said_atom
+returns-in-Refused-clause-words_after c = search (number_said said_atom, parts, words_said said_atom)

@@ -1,0 +1,21 @@
+-- `words::say_ran` meets its contract: each arm says its case of the answer.
+use borrow.Author.Rules.{rules}
+use Rattle.words.specs.Layout.{said_ran}
+use Rattle.words.proofs.Ends.{number_said, words_said, parts}
+use Rattle.words.proofs.say_ran.Goals as goal
+
+pub returns-in-Done-clause-value : goal.returns-in-Done-clause-value
+unfolding said_ran
+returns-in-Done-clause-value c = search (number_said said_ran, words_said said_ran, parts)
+
+pub returns-in-Done-clause-words_after : goal.returns-in-Done-clause-words_after
+unfolding said_ran
+returns-in-Done-clause-words_after c = search (number_said said_ran, words_said said_ran, parts)
+
+pub returns-in-Stopped-clause-value : goal.returns-in-Stopped-clause-value
+unfolding said_ran
+returns-in-Stopped-clause-value c = search (number_said said_ran, words_said said_ran, parts)
+
+pub returns-in-Stopped-clause-words_after : goal.returns-in-Stopped-clause-words_after
+unfolding said_ran
+returns-in-Stopped-clause-words_after c = search (number_said said_ran, words_said said_ran, parts)

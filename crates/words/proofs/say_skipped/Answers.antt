@@ -1,0 +1,21 @@
+-- `words::say_skipped` meets its contract: each arm says its case of the answer.
+use borrow.Author.Rules.{rules}
+use Rattle.words.specs.Layout.{said_skipped}
+use Rattle.words.proofs.Ends.{number_said, words_said, parts}
+use Rattle.words.proofs.say_skipped.Goals as goal
+
+pub returns-in-Past-clause-value : goal.returns-in-Past-clause-value
+unfolding said_skipped
+returns-in-Past-clause-value c = search (number_said said_skipped, words_said said_skipped, parts)
+
+pub returns-in-Past-clause-words_after : goal.returns-in-Past-clause-words_after
+unfolding said_skipped
+returns-in-Past-clause-words_after c = search (number_said said_skipped, words_said said_skipped, parts)
+
+pub returns-in-Refused-clause-value : goal.returns-in-Refused-clause-value
+unfolding said_skipped
+returns-in-Refused-clause-value c = search (number_said said_skipped, words_said said_skipped, parts)
+
+pub returns-in-Refused-clause-words_after : goal.returns-in-Refused-clause-words_after
+unfolding said_skipped
+returns-in-Refused-clause-words_after c = search (number_said said_skipped, words_said said_skipped, parts)
