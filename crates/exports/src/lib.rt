@@ -591,10 +591,10 @@ pub extern "C" fn pot_write_atom_header(
     ensures words_after { words.new ≡
         words_of (said_written (of_kind (λ k. written_answer (header_bytes k arg) out.old) Refused
         (kind_from kind))) words.old }
-    ensures* out_after { λ r. ⌜ out.new ≡
+    ensures out_after { out.new ≡
         unless_short words.old out.old
         (of_kind (λ k. written_content (header_bytes k arg) out.old) (λ r. out.old)
-        (kind_from kind)) ⌝ }
+        (kind_from kind)) }
 {
     let room = granted(words.len(), out.len());
     match Kind::from_u8(kind) {
@@ -615,10 +615,10 @@ pub extern "C" fn pot_write_special(out: &mut [u8], special: u64, words: &mut [u
     ensures words_after { words.new ≡
         words_of (said_written (of_special (λ k. written_answer (special_bytes k) out.old) Refused
         (special_from special))) words.old }
-    ensures* out_after { λ r. ⌜ out.new ≡
+    ensures out_after { out.new ≡
         unless_short words.old out.old
         (of_special (λ k. written_content (special_bytes k) out.old) (λ r. out.old)
-        (special_from special)) ⌝ }
+        (special_from special)) }
 {
     let room = granted(words.len(), out.len());
     match Special::try_from(special) {
@@ -645,10 +645,10 @@ pub extern "C" fn pot_write_integer(
     ensures words_after { words.new ≡
         words_of (said_written (of_integer (λ k. written_answer (value_bytes k) out.old) Refused
         (integer_of_words variant (record { lo = low; hi = high })))) words.old }
-    ensures* out_after { λ r. ⌜ out.new ≡
+    ensures out_after { out.new ≡
         unless_short words.old out.old
         (of_integer (λ k. written_content (value_bytes k) out.old) (λ r. out.old)
-        (integer_of_words variant (record { lo = low; hi = high }))) ⌝ }
+        (integer_of_words variant (record { lo = low; hi = high }))) }
 {
     let room = granted(words.len(), out.len());
     match recast::integer_from(variant, low, high) {

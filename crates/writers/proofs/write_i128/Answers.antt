@@ -1,0 +1,15 @@
+-- `writers::write_i128` meets its contract: the smaller writer of the low word, or both words.
+use Rattle.writers.proofs.Words.{word_ends}
+use Rattle.writers.proofs.write_i128.Goals as goal
+
+pub returns-then-low_word_holds-clause-value : goal.returns-then-low_word_holds-clause-value
+returns-then-low_word_holds-clause-value c = search word_ends
+
+pub returns-then-low_word_holds-clause-out_after : goal.returns-then-low_word_holds-clause-out_after
+returns-then-low_word_holds-clause-out_after c = search word_ends
+
+pub returns-clause-value : goal.returns-clause-value
+returns-clause-value c = search word_ends
+
+pub returns-clause-out_after : goal.returns-clause-out_after
+returns-clause-out_after c = search word_ends

@@ -1,0 +1,15 @@
+-- `writers::write_i32` meets its contract: the smaller writer, or this level.
+use Rattle.writers.proofs.Ends.{signed_ends}
+use Rattle.writers.proofs.write_i32.Goals as goal
+
+pub returns-then-magnitude-lt8388608-clause-value : goal.returns-then-magnitude-lt8388608-clause-value
+returns-then-magnitude-lt8388608-clause-value c = search signed_ends
+
+pub returns-then-magnitude-lt8388608-clause-out_after : goal.returns-then-magnitude-lt8388608-clause-out_after
+returns-then-magnitude-lt8388608-clause-out_after c = search signed_ends
+
+pub returns-clause-value : goal.returns-clause-value
+returns-clause-value c = search signed_ends
+
+pub returns-clause-out_after : goal.returns-clause-out_after
+returns-clause-out_after c = search signed_ends

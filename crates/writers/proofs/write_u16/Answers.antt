@@ -1,0 +1,9 @@
+-- `writers::write_u16` meets its contract: the smaller writer, or this level.
+use Rattle.writers.proofs.Ends.{unsigned_ends}
+use Rattle.writers.proofs.write_u16.Goals as goal
+
+pub returns-clause-value : goal.returns-clause-value
+returns-clause-value c = search unsigned_ends
+
+pub returns-clause-out_after : goal.returns-clause-out_after
+returns-clause-out_after c = search unsigned_ends
