@@ -12,7 +12,7 @@ ghost use Rattle.float_cast.specs.Steps.{whole_of, whole_from};
 use types::{AsInteger, Float, Refusal};
 
 // A whole number, at most 2^63; or nothing, where a fraction would be lost.
-#[derive(Drop)]
+#[derive(Clone, Copy)]
 pub enum Whole {
     Found(u64),
     Lost,
