@@ -19,14 +19,14 @@ use types::{
 
 // What the run and the tally are told of an atom: what the step that builds no value answers, with the start of its
 // body alone of its places, since they hold the other two.
-#[derive(Drop)]
+#[derive(Clone, Copy)]
 enum Step {
     Past(Place, Budget, Place, bool),
     Refused(Place, Budget, Refusal),
 }
 
 // What they know of an atom by its first byte alone: what `step_atom` tells of one that it goes past, or nothing.
-#[derive(Drop)]
+#[derive(Clone, Copy)]
 enum Short {
     Past(Place, Budget, Place, bool),
     Other,

@@ -1,0 +1,53 @@
+-- `dictionary::tally_within` meets its contract: a turn of the loop is a turn of the definition. The bytes left are the
+-- measure.
+use Prim.Native.Nat.{◌-◌}
+use lib.ListN.{length}
+use Rattle.dictionary.specs.Steps.{last_of}
+use Rattle.dictionary.proofs.Steps.{step_starts, step_inside}
+use Rattle.dictionary.proofs.Tallying.{Tallying, tally_laws}
+use Rattle.dictionary.proofs.tally_within.Goals as goal
+
+pub letters_of_short-letters-requires : goal.letters_of_short-letters-requires
+letters_of_short-letters-requires c = search tally_laws
+
+pub overflow_add-letters : goal.overflow_add-letters
+overflow_add-letters c = search tally_laws
+
+pub overflow_add-charge : goal.overflow_add-charge
+overflow_add-charge c = search tally_laws
+
+pub loop-at-smaller-in-Past : goal.loop-at-smaller-in-Past
+loop-at-smaller-in-Past c = search tally_laws
+
+pub loop-at-preserved-in-Past : goal.loop-at-preserved-in-Past
+loop-at-preserved-in-Past c = search tally_laws
+
+pub letters_of-letters-requires : goal.letters_of-letters-requires
+letters_of-letters-requires c = (search step_starts, search step_inside)
+
+pub overflow_add-letters-in-Past-step_atom : goal.overflow_add-letters-in-Past-step_atom
+overflow_add-letters-in-Past-step_atom c = search tally_laws
+
+pub overflow_add-charge-in-Past-step_atom : goal.overflow_add-charge-in-Past-step_atom
+overflow_add-charge-in-Past-step_atom c = search tally_laws
+
+pub overflow_sub-headers : goal.overflow_sub-headers
+overflow_sub-headers c = search tally_laws
+
+pub overflow_add-headers-in-Past-step_atom : goal.overflow_add-headers-in-Past-step_atom
+overflow_add-headers-in-Past-step_atom c = search tally_laws
+
+pub overflow_add-headers-in-Past-step_atom-2 : goal.overflow_add-headers-in-Past-step_atom-2
+overflow_add-headers-in-Past-step_atom-2 c = search tally_laws
+
+pub loop-at-smaller : goal.loop-at-smaller
+loop-at-smaller c = search tally_laws
+
+pub loop-at-preserved : goal.loop-at-preserved
+loop-at-preserved c = search tally_laws
+
+pub returns-in-Refused : goal.returns-in-Refused
+returns-in-Refused c = search tally_laws
+
+pub returns : goal.returns
+returns c = search tally_laws
