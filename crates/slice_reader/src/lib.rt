@@ -20,34 +20,34 @@ ghost use Rattle.slice_reader.specs.Given.{integer_place, float_place, string_pl
 use types::{AtomAnswer, Budget, BytesAnswer, FloatAnswer, IntegerAnswer, Kind, Place, Way};
 
 // Reads data from a slice: what it holds is the slice still to be read.
-#[derive(Drop)]
+#[derive(Clone, Copy)]
 pub struct SliceReader<'a> {
     pub data: &'a [u8],
 }
 
 // What an integer read answers, and the reader after it.
-#[derive(Drop)]
+#[derive(Clone, Copy)]
 pub struct IntegerRead<'a> {
     pub answer: IntegerAnswer,
     pub reader: SliceReader<'a>,
 }
 
 // What a float read answers, and the reader after it.
-#[derive(Drop)]
+#[derive(Clone, Copy)]
 pub struct FloatRead<'a> {
     pub answer: FloatAnswer,
     pub reader: SliceReader<'a>,
 }
 
 // What a string read answers, and the reader after it. The mark is a part of the slice as it was before the read.
-#[derive(Drop)]
+#[derive(Clone, Copy)]
 pub struct StringRead<'a> {
     pub answer: BytesAnswer,
     pub reader: SliceReader<'a>,
 }
 
 // What an atom read answers, and the reader after it. A string's mark is a part of the slice as it was before the read.
-#[derive(Drop)]
+#[derive(Clone, Copy)]
 pub struct AtomRead<'a> {
     pub answer: AtomAnswer,
     pub reader: SliceReader<'a>,
