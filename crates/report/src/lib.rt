@@ -10,7 +10,7 @@ use types::{Place, Refusal, Tallied, TallyAnswer, VersionAnswer, Way};
 
 // What is found of a file: its version, how many bytes follow the signature and their tally; of a refused file the
 // refusal, and where the refused atom starts in the file.
-#[derive(Drop)]
+#[derive(Clone, Copy)]
 pub enum Report {
     Counted(u8, usize, Tallied),
     Refused(Refusal, Place),
