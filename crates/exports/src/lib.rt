@@ -71,8 +71,7 @@ fn read_by(
 }
 
 // Reads an atom by the way of the entry that names none, which is exact; a string is lent.
-#[unsafe(no_mangle)]
-pub extern "C" fn pot_read_atom(source: &[u8], place: usize, budget: u64, words: &mut [u64]) -> u64
+pub fn pot_read_atom(source: &[u8], place: usize, budget: u64, words: &mut [u64]) -> u64
     ensures value { result ≡
         number_of (said_atom (atom_read unnamed_way source.now place (record { 0 = budget }) []))
         words.old }
@@ -85,8 +84,7 @@ pub extern "C" fn pot_read_atom(source: &[u8], place: usize, budget: u64, words:
 }
 
 // Reads an atom, with zeros for what is missing of a header or a number; a string is lent.
-#[unsafe(no_mangle)]
-pub extern "C" fn pot_read_atom_filled(
+pub fn pot_read_atom_filled(
     source: &[u8],
     place: usize,
     budget: u64,
@@ -104,8 +102,7 @@ pub extern "C" fn pot_read_atom_filled(
 }
 
 // Reads an atom exactly; a string is lent.
-#[unsafe(no_mangle)]
-pub extern "C" fn pot_read_atom_exact(
+pub fn pot_read_atom_exact(
     source: &[u8],
     place: usize,
     budget: u64,
@@ -123,8 +120,7 @@ pub extern "C" fn pot_read_atom_exact(
 }
 
 // Reads an atom exactly; a string is copied into scratch.
-#[unsafe(no_mangle)]
-pub extern "C" fn pot_read_atom_copied(
+pub fn pot_read_atom_copied(
     source: &[u8],
     place: usize,
     budget: u64,
@@ -153,8 +149,7 @@ pub extern "C" fn pot_read_atom_copied(
 }
 
 // Reads an atom exactly and builds no value.
-#[unsafe(no_mangle)]
-pub extern "C" fn pot_skip_atom(source: &[u8], place: usize, budget: u64, words: &mut [u64]) -> u64
+pub fn pot_skip_atom(source: &[u8], place: usize, budget: u64, words: &mut [u64]) -> u64
     ensures value { result ≡
         number_of (said_skipped (skipped source.now place (record { 0 = budget }))) words.old }
     ensures words_after { words.new ≡
@@ -167,8 +162,7 @@ pub extern "C" fn pot_skip_atom(source: &[u8], place: usize, budget: u64, words:
 }
 
 // Reads the atoms of a whole file exactly.
-#[unsafe(no_mangle)]
-pub extern "C" fn pot_run(source: &[u8], budget: u64, words: &mut [u64]) -> u64
+pub fn pot_run(source: &[u8], budget: u64, words: &mut [u64]) -> u64
     ensures value { result ≡
         number_of (said_ran (run_all source.now (record { 0 = budget }))) words.old }
     ensures words_after { words.new ≡
@@ -178,8 +172,7 @@ pub extern "C" fn pot_run(source: &[u8], budget: u64, words: &mut [u64]) -> u64
 }
 
 // Counts the atoms of a whole file, their body bytes, charges and letters.
-#[unsafe(no_mangle)]
-pub extern "C" fn pot_tally(source: &[u8], words: &mut [u64]) -> u64
+pub fn pot_tally(source: &[u8], words: &mut [u64]) -> u64
     ensures value { result ≡ number_of (said_tally (tally_all source.now)) words.old }
     ensures words_after { words.new ≡ words_of (said_tally (tally_all source.now)) words.old }
 {
@@ -187,8 +180,7 @@ pub extern "C" fn pot_tally(source: &[u8], words: &mut [u64]) -> u64
 }
 
 // Checks that each atom of a whole file is whole, known and in shortest form.
-#[unsafe(no_mangle)]
-pub extern "C" fn pot_check(source: &[u8], words: &mut [u64]) -> u64
+pub fn pot_check(source: &[u8], words: &mut [u64]) -> u64
     ensures value { result ≡ number_of (said_checked (check_all source.now)) words.old }
     ensures words_after { words.new ≡ words_of (said_checked (check_all source.now)) words.old }
 {
@@ -205,8 +197,7 @@ fn read_header_by(source: &[u8], place: usize, way: Way, words: &mut [u64]) -> u
 }
 
 // Reads the signature by the way of the entry that names none, which is exact.
-#[unsafe(no_mangle)]
-pub extern "C" fn pot_read_header(source: &[u8], place: usize, words: &mut [u64]) -> u64
+pub fn pot_read_header(source: &[u8], place: usize, words: &mut [u64]) -> u64
     ensures value { result ≡
         number_of (said_version (version_read unnamed_way source.now place)) words.old }
     ensures words_after { words.new ≡
@@ -216,8 +207,7 @@ pub extern "C" fn pot_read_header(source: &[u8], place: usize, words: &mut [u64]
 }
 
 // Reads the signature, with zeros for what is missing of it.
-#[unsafe(no_mangle)]
-pub extern "C" fn pot_read_header_filled(source: &[u8], place: usize, words: &mut [u64]) -> u64
+pub fn pot_read_header_filled(source: &[u8], place: usize, words: &mut [u64]) -> u64
     ensures value { result ≡ number_of (said_version (version_read Filled source.now place)) words.old }
     ensures words_after { words.new ≡
         words_of (said_version (version_read Filled source.now place)) words.old }
@@ -226,8 +216,7 @@ pub extern "C" fn pot_read_header_filled(source: &[u8], place: usize, words: &mu
 }
 
 // Reads the signature exactly.
-#[unsafe(no_mangle)]
-pub extern "C" fn pot_read_header_exact(source: &[u8], place: usize, words: &mut [u64]) -> u64
+pub fn pot_read_header_exact(source: &[u8], place: usize, words: &mut [u64]) -> u64
     ensures value { result ≡
         number_of (said_version (version_read ExactLent source.now place)) words.old }
     ensures words_after { words.new ≡
@@ -237,8 +226,7 @@ pub extern "C" fn pot_read_header_exact(source: &[u8], place: usize, words: &mut
 }
 
 // Writes the signature with a version.
-#[unsafe(no_mangle)]
-pub extern "C" fn pot_write_header(out: &mut [u8], version: u8, words: &mut [u64]) -> u64
+pub fn pot_write_header(out: &mut [u8], version: u8, words: &mut [u64]) -> u64
     ensures value { result ≡
         number_of (said_written (written_answer (signature_bytes version) out.old)) words.old }
     ensures words_after { words.new ≡
@@ -253,8 +241,7 @@ pub extern "C" fn pot_write_header(out: &mut [u8], version: u8, words: &mut [u64
 }
 
 // Writes None.
-#[unsafe(no_mangle)]
-pub extern "C" fn pot_write_none(out: &mut [u8], words: &mut [u64]) -> u64
+pub fn pot_write_none(out: &mut [u8], words: &mut [u64]) -> u64
     ensures value { result ≡
         number_of (said_written (written_answer (special_bytes None) out.old)) words.old }
     ensures words_after { words.new ≡
@@ -268,8 +255,7 @@ pub extern "C" fn pot_write_none(out: &mut [u8], words: &mut [u64]) -> u64
 }
 
 // Writes the unit.
-#[unsafe(no_mangle)]
-pub extern "C" fn pot_write_unit(out: &mut [u8], words: &mut [u64]) -> u64
+pub fn pot_write_unit(out: &mut [u8], words: &mut [u64]) -> u64
     ensures value { result ≡
         number_of (said_written (written_answer (special_bytes Unit) out.old)) words.old }
     ensures words_after { words.new ≡
@@ -283,8 +269,7 @@ pub extern "C" fn pot_write_unit(out: &mut [u8], words: &mut [u64]) -> u64
 }
 
 // Writes the mark of a named value.
-#[unsafe(no_mangle)]
-pub extern "C" fn pot_write_named(out: &mut [u8], words: &mut [u64]) -> u64
+pub fn pot_write_named(out: &mut [u8], words: &mut [u64]) -> u64
     ensures value { result ≡
         number_of (said_written (written_answer (special_bytes Named) out.old)) words.old }
     ensures words_after { words.new ≡
@@ -298,8 +283,7 @@ pub extern "C" fn pot_write_named(out: &mut [u8], words: &mut [u64]) -> u64
 }
 
 // Writes an Int of at most 8 bits.
-#[unsafe(no_mangle)]
-pub extern "C" fn pot_write_i8(out: &mut [u8], value: i8, words: &mut [u64]) -> u64
+pub fn pot_write_i8(out: &mut [u8], value: i8, words: &mut [u64]) -> u64
     ensures value { result ≡
         number_of (said_written (written_answer (signed_bytes value) out.old)) words.old }
     ensures words_after { words.new ≡
@@ -313,8 +297,7 @@ pub extern "C" fn pot_write_i8(out: &mut [u8], value: i8, words: &mut [u64]) -> 
 }
 
 // Writes a UInt of at most 8 bits.
-#[unsafe(no_mangle)]
-pub extern "C" fn pot_write_u8(out: &mut [u8], value: u8, words: &mut [u64]) -> u64
+pub fn pot_write_u8(out: &mut [u8], value: u8, words: &mut [u64]) -> u64
     ensures value { result ≡
         number_of (said_written (written_answer (unsigned_bytes value) out.old)) words.old }
     ensures words_after { words.new ≡
@@ -329,8 +312,7 @@ pub extern "C" fn pot_write_u8(out: &mut [u8], value: u8, words: &mut [u64]) -> 
 }
 
 // Writes an Int of at most 16 bits.
-#[unsafe(no_mangle)]
-pub extern "C" fn pot_write_i16(out: &mut [u8], value: i16, words: &mut [u64]) -> u64
+pub fn pot_write_i16(out: &mut [u8], value: i16, words: &mut [u64]) -> u64
     ensures value { result ≡
         number_of (said_written (written_answer (signed_bytes value) out.old)) words.old }
     ensures words_after { words.new ≡
@@ -344,8 +326,7 @@ pub extern "C" fn pot_write_i16(out: &mut [u8], value: i16, words: &mut [u64]) -
 }
 
 // Writes a UInt of at most 16 bits.
-#[unsafe(no_mangle)]
-pub extern "C" fn pot_write_u16(out: &mut [u8], value: u16, words: &mut [u64]) -> u64
+pub fn pot_write_u16(out: &mut [u8], value: u16, words: &mut [u64]) -> u64
     ensures value { result ≡
         number_of (said_written (written_answer (unsigned_bytes value) out.old)) words.old }
     ensures words_after { words.new ≡
@@ -360,8 +341,7 @@ pub extern "C" fn pot_write_u16(out: &mut [u8], value: u16, words: &mut [u64]) -
 }
 
 // Writes an Int of at most 24 bits; refusal 8 of a value that so many bits do not hold.
-#[unsafe(no_mangle)]
-pub extern "C" fn pot_write_i24(out: &mut [u8], value: i32, words: &mut [u64]) -> u64
+pub fn pot_write_i24(out: &mut [u8], value: i32, words: &mut [u64]) -> u64
     ensures value { result ≡
         number_of (said_written (held_answer (holds_s 3 value) (signed_bytes value) out.old))
         words.old }
@@ -378,8 +358,7 @@ pub extern "C" fn pot_write_i24(out: &mut [u8], value: i32, words: &mut [u64]) -
 }
 
 // Writes a UInt of at most 24 bits; refusal 8 of a value that so many bits do not hold.
-#[unsafe(no_mangle)]
-pub extern "C" fn pot_write_u24(out: &mut [u8], value: u32, words: &mut [u64]) -> u64
+pub fn pot_write_u24(out: &mut [u8], value: u32, words: &mut [u64]) -> u64
     ensures value { result ≡
         number_of (said_written (held_answer (holds_u 3 value) (unsigned_bytes value) out.old))
         words.old }
@@ -396,8 +375,7 @@ pub extern "C" fn pot_write_u24(out: &mut [u8], value: u32, words: &mut [u64]) -
 }
 
 // Writes an Int of at most 32 bits.
-#[unsafe(no_mangle)]
-pub extern "C" fn pot_write_i32(out: &mut [u8], value: i32, words: &mut [u64]) -> u64
+pub fn pot_write_i32(out: &mut [u8], value: i32, words: &mut [u64]) -> u64
     ensures value { result ≡
         number_of (said_written (written_answer (signed_bytes value) out.old)) words.old }
     ensures words_after { words.new ≡
@@ -411,8 +389,7 @@ pub extern "C" fn pot_write_i32(out: &mut [u8], value: i32, words: &mut [u64]) -
 }
 
 // Writes a UInt of at most 32 bits.
-#[unsafe(no_mangle)]
-pub extern "C" fn pot_write_u32(out: &mut [u8], value: u32, words: &mut [u64]) -> u64
+pub fn pot_write_u32(out: &mut [u8], value: u32, words: &mut [u64]) -> u64
     ensures value { result ≡
         number_of (said_written (written_answer (unsigned_bytes value) out.old)) words.old }
     ensures words_after { words.new ≡
@@ -427,8 +404,7 @@ pub extern "C" fn pot_write_u32(out: &mut [u8], value: u32, words: &mut [u64]) -
 }
 
 // Writes an Int of at most 48 bits; refusal 8 of a value that so many bits do not hold.
-#[unsafe(no_mangle)]
-pub extern "C" fn pot_write_i48(out: &mut [u8], value: i64, words: &mut [u64]) -> u64
+pub fn pot_write_i48(out: &mut [u8], value: i64, words: &mut [u64]) -> u64
     ensures value { result ≡
         number_of (said_written (held_answer (holds_s 6 value) (signed_bytes value) out.old))
         words.old }
@@ -445,8 +421,7 @@ pub extern "C" fn pot_write_i48(out: &mut [u8], value: i64, words: &mut [u64]) -
 }
 
 // Writes a UInt of at most 48 bits; refusal 8 of a value that so many bits do not hold.
-#[unsafe(no_mangle)]
-pub extern "C" fn pot_write_u48(out: &mut [u8], value: u64, words: &mut [u64]) -> u64
+pub fn pot_write_u48(out: &mut [u8], value: u64, words: &mut [u64]) -> u64
     ensures value { result ≡
         number_of (said_written (held_answer (holds_u 6 value) (unsigned_bytes value) out.old))
         words.old }
@@ -463,8 +438,7 @@ pub extern "C" fn pot_write_u48(out: &mut [u8], value: u64, words: &mut [u64]) -
 }
 
 // Writes an Int of at most 64 bits.
-#[unsafe(no_mangle)]
-pub extern "C" fn pot_write_i64(out: &mut [u8], value: i64, words: &mut [u64]) -> u64
+pub fn pot_write_i64(out: &mut [u8], value: i64, words: &mut [u64]) -> u64
     ensures value { result ≡
         number_of (said_written (written_answer (signed_bytes value) out.old)) words.old }
     ensures words_after { words.new ≡
@@ -478,8 +452,7 @@ pub extern "C" fn pot_write_i64(out: &mut [u8], value: i64, words: &mut [u64]) -
 }
 
 // Writes a UInt of at most 64 bits.
-#[unsafe(no_mangle)]
-pub extern "C" fn pot_write_u64(out: &mut [u8], value: u64, words: &mut [u64]) -> u64
+pub fn pot_write_u64(out: &mut [u8], value: u64, words: &mut [u64]) -> u64
     ensures value { result ≡
         number_of (said_written (written_answer (unsigned_bytes value) out.old)) words.old }
     ensures words_after { words.new ≡
@@ -494,8 +467,7 @@ pub extern "C" fn pot_write_u64(out: &mut [u8], value: u64, words: &mut [u64]) -
 }
 
 // Writes an Int of at most 128 bits, whose value is two words in two's complement.
-#[unsafe(no_mangle)]
-pub extern "C" fn pot_write_i128(out: &mut [u8], low: u64, high: u64, words: &mut [u64]) -> u64
+pub fn pot_write_i128(out: &mut [u8], low: u64, high: u64, words: &mut [u64]) -> u64
     ensures value { result ≡
         number_of (said_written (written_answer (signed_bytes (joined_signed (record { lo = low; hi = high })))
         out.old)) words.old }
@@ -512,8 +484,7 @@ pub extern "C" fn pot_write_i128(out: &mut [u8], low: u64, high: u64, words: &mu
 }
 
 // Writes a UInt of at most 128 bits, whose value is two words.
-#[unsafe(no_mangle)]
-pub extern "C" fn pot_write_u128(out: &mut [u8], low: u64, high: u64, words: &mut [u64]) -> u64
+pub fn pot_write_u128(out: &mut [u8], low: u64, high: u64, words: &mut [u64]) -> u64
     ensures value { result ≡
         number_of (said_written (written_answer (unsigned_bytes (joined (record { lo = low; hi = high })))
         out.old)) words.old }
@@ -530,8 +501,7 @@ pub extern "C" fn pot_write_u128(out: &mut [u8], low: u64, high: u64, words: &mu
 }
 
 // Writes a string.
-#[unsafe(no_mangle)]
-pub extern "C" fn pot_write_bytes(out: &mut [u8], value: &[u8], words: &mut [u64]) -> u64
+pub fn pot_write_bytes(out: &mut [u8], value: &[u8], words: &mut [u64]) -> u64
     ensures value { result ≡
         number_of (said_written (written_answer (bytes_bytes value.now) out.old))
         words.old }
@@ -548,8 +518,7 @@ pub extern "C" fn pot_write_bytes(out: &mut [u8], value: &[u8], words: &mut [u64
 }
 
 // Writes a float of 32 bits, given by its bits.
-#[unsafe(no_mangle)]
-pub extern "C" fn pot_write_f32(out: &mut [u8], bits: u32, words: &mut [u64]) -> u64
+pub fn pot_write_f32(out: &mut [u8], bits: u32, words: &mut [u64]) -> u64
     ensures value { result ≡
         number_of (said_written (written_answer (f32_bytes bits) out.old)) words.old }
     ensures words_after { words.new ≡
@@ -563,8 +532,7 @@ pub extern "C" fn pot_write_f32(out: &mut [u8], bits: u32, words: &mut [u64]) ->
 }
 
 // Writes a float of 64 bits, given by its bits.
-#[unsafe(no_mangle)]
-pub extern "C" fn pot_write_f64(out: &mut [u8], bits: u64, words: &mut [u64]) -> u64
+pub fn pot_write_f64(out: &mut [u8], bits: u64, words: &mut [u64]) -> u64
     ensures value { result ≡
         number_of (said_written (written_answer (f64_bytes bits) out.old)) words.old }
     ensures words_after { words.new ≡
@@ -578,8 +546,7 @@ pub extern "C" fn pot_write_f64(out: &mut [u8], bits: u64, words: &mut [u64]) ->
 }
 
 // Writes an atom header, of a kind given by its code.
-#[unsafe(no_mangle)]
-pub extern "C" fn pot_write_atom_header(
+pub fn pot_write_atom_header(
     out: &mut [u8],
     kind: u8,
     arg: u64,
@@ -607,8 +574,7 @@ pub extern "C" fn pot_write_atom_header(
 }
 
 // Writes a special, given by its code.
-#[unsafe(no_mangle)]
-pub extern "C" fn pot_write_special(out: &mut [u8], special: u64, words: &mut [u64]) -> u64
+pub fn pot_write_special(out: &mut [u8], special: u64, words: &mut [u64]) -> u64
     ensures value { result ≡
         number_of (said_written (of_special (λ k. written_answer (special_bytes k) out.old) Refused
         (special_from special))) words.old }
@@ -631,8 +597,7 @@ pub extern "C" fn pot_write_special(out: &mut [u8], special: u64, words: &mut [u
 }
 
 // Writes an integer, given by its variant's number and its value's words.
-#[unsafe(no_mangle)]
-pub extern "C" fn pot_write_integer(
+pub fn pot_write_integer(
     out: &mut [u8],
     variant: u64,
     low: u64,
@@ -661,8 +626,7 @@ pub extern "C" fn pot_write_integer(
 }
 
 // Writes a boolean: false of 0, true of any other number.
-#[unsafe(no_mangle)]
-pub extern "C" fn pot_write_bool(out: &mut [u8], value: u8, words: &mut [u64]) -> u64
+pub fn pot_write_bool(out: &mut [u8], value: u8, words: &mut [u64]) -> u64
     ensures value { result ≡
         number_of (said_written (written_answer (special_bytes (truth (not (eqb value 0)))) out.old))
         words.old }
@@ -679,8 +643,7 @@ pub extern "C" fn pot_write_bool(out: &mut [u8], value: u8, words: &mut [u64]) -
 }
 
 // Casts an integer to the variant of a number.
-#[unsafe(no_mangle)]
-pub extern "C" fn pot_integer_cast(
+pub fn pot_integer_cast(
     to: u64,
     variant: u64,
     low: u64,
@@ -701,8 +664,7 @@ pub extern "C" fn pot_integer_cast(
 }
 
 // Casts an integer to an f32.
-#[unsafe(no_mangle)]
-pub extern "C" fn pot_integer_as_f32(variant: u64, low: u64, high: u64, words: &mut [u64]) -> u64
+pub fn pot_integer_as_f32(variant: u64, low: u64, high: u64, words: &mut [u64]) -> u64
     ensures value { result ≡
         number_of (of_integer (λ x. said_as_f32 (as_f32 x)) said_refused
         (integer_of_words variant (record { lo = low; hi = high }))) words.old }
@@ -717,8 +679,7 @@ pub extern "C" fn pot_integer_as_f32(variant: u64, low: u64, high: u64, words: &
 }
 
 // Casts an integer to an f64.
-#[unsafe(no_mangle)]
-pub extern "C" fn pot_integer_as_f64(variant: u64, low: u64, high: u64, words: &mut [u64]) -> u64
+pub fn pot_integer_as_f64(variant: u64, low: u64, high: u64, words: &mut [u64]) -> u64
     ensures value { result ≡
         number_of (of_integer (λ x. said_as_f64 (as_f64 x)) said_refused
         (integer_of_words variant (record { lo = low; hi = high }))) words.old }
@@ -733,8 +694,7 @@ pub extern "C" fn pot_integer_as_f64(variant: u64, low: u64, high: u64, words: &
 }
 
 // Casts an f32 to an f64, a NaN too.
-#[unsafe(no_mangle)]
-pub extern "C" fn pot_f32_as_f64(bits: u32, words: &mut [u64]) -> u64
+pub fn pot_f32_as_f64(bits: u32, words: &mut [u64]) -> u64
     ensures value { result ≡ number_of (said_word (widened single double bits)) words.old }
     ensures words_after { words.new ≡ words_of (said_word (widened single double bits)) words.old }
 {
@@ -742,8 +702,7 @@ pub extern "C" fn pot_f32_as_f64(bits: u32, words: &mut [u64]) -> u64
 }
 
 // Casts an f64 to an f32 of an equal value.
-#[unsafe(no_mangle)]
-pub extern "C" fn pot_f64_as_f32(bits: u64, words: &mut [u64]) -> u64
+pub fn pot_f64_as_f32(bits: u64, words: &mut [u64]) -> u64
     ensures value { result ≡ number_of (said_narrowed (narrowed double single bits)) words.old }
     ensures words_after { words.new ≡ words_of (said_narrowed (narrowed double single bits)) words.old }
 {
@@ -751,8 +710,7 @@ pub extern "C" fn pot_f64_as_f32(bits: u64, words: &mut [u64]) -> u64
 }
 
 // Casts an f32 to an integer.
-#[unsafe(no_mangle)]
-pub extern "C" fn pot_f32_as_integer(bits: u32, words: &mut [u64]) -> u64
+pub fn pot_f32_as_integer(bits: u32, words: &mut [u64]) -> u64
     ensures value { result ≡ number_of (said_as_integer (as_integer (F32 (of_bits binary32 bits)))) words.old }
     ensures words_after { words.new ≡
         words_of (said_as_integer (as_integer (F32 (of_bits binary32 bits)))) words.old }
@@ -762,8 +720,7 @@ pub extern "C" fn pot_f32_as_integer(bits: u32, words: &mut [u64]) -> u64
 }
 
 // Casts an f64 to an integer.
-#[unsafe(no_mangle)]
-pub extern "C" fn pot_f64_as_integer(bits: u64, words: &mut [u64]) -> u64
+pub fn pot_f64_as_integer(bits: u64, words: &mut [u64]) -> u64
     ensures value { result ≡ number_of (said_as_integer (as_integer (F64 (of_bits binary64 bits)))) words.old }
     ensures words_after { words.new ≡
         words_of (said_as_integer (as_integer (F64 (of_bits binary64 bits)))) words.old }

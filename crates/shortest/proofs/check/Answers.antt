@@ -1,0 +1,28 @@
+-- `shortest::check` meets its contract: a turn of the loop is a turn of the definition. Each atom takes a byte at
+-- least, so that the bytes left are the measure.
+use Prim.Native.Nat.{◌-◌}
+use lib.ListN.{length}
+use Rattle.shortest.proofs.Checking.{Checking}
+use Rattle.shortest.proofs.Checking.{check_laws}
+use Rattle.shortest.proofs.check.Goals as goal
+
+pub loop-at-preserved-then-end-at : goal.loop-at-preserved-then-end-at
+loop-at-preserved-then-end-at c = search check_laws
+
+pub shortest_atom-requires : goal.shortest_atom-requires
+shortest_atom-requires c = search check_laws
+
+pub loop-at-smaller : goal.loop-at-smaller
+loop-at-smaller c = search check_laws
+
+pub loop-at-preserved : goal.loop-at-preserved
+loop-at-preserved c = search check_laws
+
+pub returns-in-Past : goal.returns-in-Past
+returns-in-Past c = search check_laws
+
+pub returns-in-Refused : goal.returns-in-Refused
+returns-in-Refused c = search check_laws
+
+pub returns : goal.returns
+returns c = search check_laws
