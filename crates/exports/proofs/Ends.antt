@@ -2,9 +2,9 @@
 use mathlib.Core.Path.{◌≡◌, refl, ◌∙◌, sym, ap}
 use mathlib.Core.Bool.{Bool, true, false}
 use mathlib.Core.List.{List, [], ◌∷◌, ◌++◌, append-nil}
-use Prim.Native.Nat.{ℕ, ◌-◌, ◌≤◌, ◌<◌}
+use Prim.Native.Nat.{ℕ, ◌-◌, ◌≤◌, ◌<◌, zero-le}
 use native.Mathlib.Omega.{arith}
-use borrow.Author.Rules.{rules, zero≤, sfits_of}
+use borrow.Author.Rules.{rules, sfits_of}
 use borrow.Author.Tests.{lt-ltb, le-ltb}
 use lib.Dec.{ltb}
 use mir.Facts.{to_z-of_z}
@@ -264,7 +264,7 @@ module _ (X : Type 0) (refused : Refusal → X) (a : X) where
 
 -- Of the toolchain's `rules` an export has these few; with all of them a wrong answer is searched for half as long
 -- again.
-pub ruleset few = (tt, zero≤, to_z-of_z, sfits_of)
+pub ruleset few = (tt, zero-le, to_z-of_z, sfits_of)
 
 pub ruleset alike = (word_said, atom_said_lem, skipped_said, ran_said, tally_said, checked_said, version_said, integer_said)
 
