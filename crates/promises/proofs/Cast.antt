@@ -1,6 +1,6 @@
 -- One result for each contract of `cast`, and one content of each lent buffer.
-use Rattle.cast.specs.contracts.as_f32_rows as as_f32_rows
-use Rattle.cast.proofs.as_f32_rows.Reads as as-f32-reads
+use Rattle.cast.specs.contracts.as_f32 as as_f32_rows
+use Rattle.cast.proofs.as_f32.Reads as as-f32-reads
 use Rattle.cast.specs.contracts.as_f64 as as-f64
 use Rattle.cast.proofs.as_f64.Reads as as-f64-reads
 use Rattle.cast.specs.contracts.as_float as as-float
@@ -19,8 +19,8 @@ use Rattle.cast.specs.contracts.as_u128 as as_u128_rows
 use Rattle.cast.proofs.as_u128.Reads as as-u128-reads
 use Rattle.cast.specs.contracts.as_u16 as as_u16_rows
 use Rattle.cast.proofs.as_u16.Reads as as-u16-reads
-use Rattle.cast.specs.contracts.as_u32_rows as as_u32_rows
-use Rattle.cast.proofs.as_u32_rows.Reads as as-u32-reads
+use Rattle.cast.specs.contracts.as_u32 as as_u32_rows
+use Rattle.cast.proofs.as_u32.Reads as as-u32-reads
 use Rattle.cast.specs.contracts.as_u64 as as_u64_rows
 use Rattle.cast.proofs.as_u64.Reads as as-u64-reads
 use Rattle.cast.specs.contracts.as_u8 as as_u8_rows

@@ -73,16 +73,31 @@ no_string : (kind : Kind) → Number kind → is_string kind ≡ false
 no_string K.Int int = refl
 no_string K.UInt uint = refl
 no_string K.Float float = refl
+no_string K.Special none = elim none [ ]
+no_string K.Sequence none = elim none [ ]
+no_string K.Map none = elim none [ ]
+no_string K.Symbol none = elim none [ ]
+no_string K.Bytes none = elim none [ ]
 
 can_end_lem : (way : Way) (kind : Kind) → Number kind → can_end way kind ≡ exact way
 can_end_lem way K.Int int = refl
 can_end_lem way K.UInt uint = refl
 can_end_lem way K.Float float = refl
+can_end_lem way K.Special none = elim none [ ]
+can_end_lem way K.Sequence none = elim none [ ]
+can_end_lem way K.Map none = elim none [ ]
+can_end_lem way K.Symbol none = elim none [ ]
+can_end_lem way K.Bytes none = elim none [ ]
 
 its_count : (kind : Kind) → Number kind → (arg : ℕ) → body_length kind arg ≡ count_of arg
 its_count K.Int int arg = refl
 its_count K.UInt uint arg = refl
 its_count K.Float float arg = refl
+its_count K.Special none arg = elim none [ ]
+its_count K.Sequence none arg = elim none [ ]
+its_count K.Map none arg = elim none [ ]
+its_count K.Symbol none arg = elim none [ ]
+its_count K.Bytes none arg = elim none [ ]
 
 -- a body that takes no scratch leaves it
 no_room_lem : (way : Way) (kind : Kind) (arg : ℕ) → is_string kind ≡ false → room_of way kind arg ≡ 0
@@ -351,6 +366,11 @@ no_special : (kind : Kind) → Number kind → eqb (kind_code kind) 0 ≡ false
 no_special K.Int int = refl
 no_special K.UInt uint = refl
 no_special K.Float float = refl
+no_special K.Special none = elim none [ ]
+no_special K.Sequence none = elim none [ ]
+no_special K.Map none = elim none [ ]
+no_special K.Symbol none = elim none [ ]
+no_special K.Bytes none = elim none [ ]
 
 read_verdict : (way : Way) (s : List ℕ) (place : ℕ) (budget : Budget) (scratch : List ℕ) (next : Place) (kind : Kind)
     (arg : ℕ) (t : Bool) → ltb (length s) (next.0 + body_length kind arg) ≡ t →

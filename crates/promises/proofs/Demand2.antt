@@ -267,6 +267,11 @@ number_charge_lem : (kind : Kind) → Number kind → (n : ℕ) → 0 < n → n 
 number_charge_lem K.Int int n p q = ap number_charge (sym (counted n p q))
 number_charge_lem K.UInt uint n p q = ap number_charge (sym (counted n p q))
 number_charge_lem K.Float float n p q = ap number_charge (sym (counted n p q))
+number_charge_lem K.Special none n p q = elim none [ ]
+number_charge_lem K.Sequence none n p q = elim none [ ]
+number_charge_lem K.Map none n p q = elim none [ ]
+number_charge_lem K.Symbol none n p q = elim none [ ]
+number_charge_lem K.Bytes none n p q = elim none [ ]
 
 integer_price : (kind : Kind) →
     Number kind →
@@ -515,3 +520,8 @@ module _ (way : Way) (before after : List ℕ) (budget : Budget) (scratch : List
       header_read_lem K.Sequence sequence arg h refl (headed K.Sequence arg refl refl)
   read_back (header K.Map map arg h) b r = header_read_lem K.Map map arg h refl (headed K.Map arg refl refl)
   read_back (header K.Symbol symbol arg h) b r = header_read_lem K.Symbol symbol arg h refl (headed K.Symbol arg refl refl)
+  read_back (header K.Special none arg h) b r = elim none [ ]
+  read_back (header K.Int none arg h) b r = elim none [ ]
+  read_back (header K.UInt none arg h) b r = elim none [ ]
+  read_back (header K.Float none arg h) b r = elim none [ ]
+  read_back (header K.Bytes none arg h) b r = elim none [ ]

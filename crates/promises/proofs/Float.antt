@@ -1,8 +1,8 @@
 -- One result for each contract of `float`, and one content of each lent buffer.
 use Rattle.float.specs.contracts.allowed as allowed
 use Rattle.float.proofs.allowed.Reads as allowed-reads
-use Rattle.float.specs.contracts.as_f32_rows as as_f32_rows
-use Rattle.float.proofs.as_f32_rows.Reads as as-f32-reads
+use Rattle.float.specs.contracts.as_f32 as as_f32_rows
+use Rattle.float.proofs.as_f32.Reads as as-f32-reads
 use Rattle.float.specs.contracts.as_f64 as as-f64
 use Rattle.float.proofs.as_f64.Reads as as-f64-reads
 use Rattle.float.specs.contracts.equal as equal

@@ -6,8 +6,8 @@ use Rattle.types.specs.contracts.Kind.from_u8 as kind-from-u8
 use Rattle.types.proofs.Kind.from_u8.Reads as kind-from-u8-reads
 use Rattle.types.specs.contracts.Place.within as place_within
 use Rattle.types.proofs.Place.within.Reads as place-within-reads
-use Rattle.types.specs.contracts.Refusal.no_room_lem as refusal-no-room
-use Rattle.types.proofs.Refusal.no_room_lem.Reads as refusal-no-room-reads
+use Rattle.types.specs.contracts.Refusal.no_room as refusal-no-room
+use Rattle.types.proofs.Refusal.no_room.Reads as refusal-no-room-reads
 use Rattle.types.specs.contracts.Refusal.number as refusal-number
 use Rattle.types.proofs.Refusal.number.Reads as refusal-number-reads
 use Rattle.types.specs.contracts.Refusal.unsupported as refusal-unsupported
