@@ -21,7 +21,6 @@ use Rattle.types.specs.declared.Refusal.{Refusal}
 use Rattle.types.specs.declared.Refusal.TheVariants as R
 use Rattle.types.specs.declared.Written.{Written}
 use Rattle.types.specs.declared.AsF32.{AsF32}
-use Rattle.types.specs.declared.AsF32.TheVariants as AsF32
 use Rattle.types.specs.declared.FloatAnswer.{FloatAnswer}
 use Rattle.types.specs.declared.FloatAnswer.TheVariants as FA
 use Rattle.header.specs.Header.{header_bytes}

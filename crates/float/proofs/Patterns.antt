@@ -6,7 +6,6 @@ use lib.Ieee.{Float, binary32, binary64, fits, of_bits, to_bits}
 use lib.Ieee.Bits.{of_bits-to_bits, to_bits-lt}
 use Rattle.types.specs.declared.Refusal.TheVariants as R
 use Rattle.types.specs.declared.AsF32.{AsF32}
-use Rattle.types.specs.declared.AsF32.TheVariants as AsF32
 use Rattle.binary.specs.declared.Narrowed32 as N32
 use Rattle.binary.specs.Formats.{Layout, single, double, sign_weight, Meaning, finite, infinite, nan, meaning}
 use Rattle.binary.specs.Conversions.{kept, narrowed, narrowed_meaning, answer32}

@@ -7,7 +7,6 @@ use Rattle.types.specs.declared.Float.{Float}
 use Rattle.types.specs.declared.Float.TheVariants as F
 use Rattle.types.specs.declared.Refusal.TheVariants as R
 use Rattle.types.specs.declared.AsF32.{AsF32}
-use Rattle.types.specs.declared.AsF32.TheVariants as AsF32
 use Rattle.binary.specs.Formats.{single, Meaning, finite, infinite, nan}
 use Rattle.binary.specs.Conversions.{Narrowed, kept, lost, narrowed_meaning}
 use Rattle.binary.specs.Floats.{float_meaning}

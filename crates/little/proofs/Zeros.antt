@@ -5,7 +5,7 @@ use mathlib.Core.List.{List, [], ◌∷◌, ◌++◌, append-nil}
 use Prim.Native.Nat.{ℕ, zero, suc, ◌+◌, ◌≤◌, ◌<◌}
 use native.Mathlib.Omega.{arith}
 use borrow.Author.Rules.{rules}
-use lib.ListN.{length, take, drop, get_or, set, replicate, length-append, length-replicate, drop_of_length-le}
+use lib.ListN.{length, drop, get_or, set, replicate, length-append, length-replicate, drop_of_length-le}
 use lib.Seq.{length-take-le, get_or-take, get_or-drop, take-take}
 use Rattle.lent.specs.Lent.{copied_over}
 use Rattle.lent.proofs.Ends.{Copying, copy_begins, copy_turn, copy_ends}

@@ -16,23 +16,14 @@ use Rattle.types.specs.declared.Refusal.TheVariants as R
 use Rattle.types.specs.declared.AsInteger.{AsInteger}
 use Rattle.types.specs.declared.AsInteger.TheVariants as In
 use Rattle.types.specs.declared.AsI8.{AsI8}
-use Rattle.types.specs.declared.AsI8.TheVariants as AsI8
 use Rattle.types.specs.declared.AsI16.{AsI16}
-use Rattle.types.specs.declared.AsI16.TheVariants as AsI16
 use Rattle.types.specs.declared.AsI32.{AsI32}
-use Rattle.types.specs.declared.AsI32.TheVariants as AsI32
 use Rattle.types.specs.declared.AsI64.{AsI64}
-use Rattle.types.specs.declared.AsI64.TheVariants as AsI64
 use Rattle.types.specs.declared.AsWide.{AsWide}
-use Rattle.types.specs.declared.AsWide.TheVariants as AsWide
 use Rattle.types.specs.declared.AsU8.{AsU8}
-use Rattle.types.specs.declared.AsU8.TheVariants as AsU8
 use Rattle.types.specs.declared.AsU16.{AsU16}
-use Rattle.types.specs.declared.AsU16.TheVariants as AsU16
 use Rattle.types.specs.declared.AsU32.{AsU32}
-use Rattle.types.specs.declared.AsU32.TheVariants as AsU32
 use Rattle.types.specs.declared.AsU64.{AsU64}
-use Rattle.types.specs.declared.AsU64.TheVariants as AsU64
 use Rattle.cast.specs.Variants.{variant}
 use Rattle.cast.specs.Casts.{cast, castable}
 use Rattle.cast.specs.Froms.{from}

@@ -1,7 +1,7 @@
 -- `float::widen` meets its contract: a number keeps its value, and a NaN alone differs from itself.
 use mathlib.Core.Path.{sym}
 use lib.Ieee
-use Rattle.binary.proofs.Nan.{self_no_nan, self_nan}
+use Rattle.binary.proofs.Nan.{self_nan}
 use borrow.Author.Rules.{rules}
 use Rattle.float.proofs.widen.Goals as goal
 

@@ -1,5 +1,5 @@
 -- `header::later_length` meets its contract. The invariant: the groups counted and those left are the number's.
-use Rattle.header.proofs.Groups.{Counting, count_laws}
+use Rattle.header.proofs.Groups.{Counting}
 use Rattle.header.proofs.later_length.Given as goal
 
 abbrev pub invariant-loop-arg : goal.invariant-loop-arg

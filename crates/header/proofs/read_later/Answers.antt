@@ -1,6 +1,5 @@
 -- `header::read_later` meets its contract. The invariant: nothing of the argument and of the place is lost, `Reading`.
-use Prim.Native.Nat.{◌-◌}
-use Rattle.header.proofs.Later.{Reading, reading_laws}
+use Rattle.header.proofs.Later.{reading_laws}
 use Rattle.header.proofs.read_later.Goals as goal
 
 pub returns-then-data-byte : goal.returns-then-data-byte

@@ -1,6 +1,6 @@
 -- `header::read_later` meets its contract. The invariant: nothing of the argument and of the place is lost, `Reading`.
 use Prim.Native.Nat.{◌-◌}
-use Rattle.header.proofs.Later.{Reading, reading_laws}
+use Rattle.header.proofs.Later.{Reading}
 use Rattle.header.proofs.read_later.Given as goal
 
 abbrev pub invariant-loop-place : goal.invariant-loop-place

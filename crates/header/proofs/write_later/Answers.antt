@@ -1,5 +1,5 @@
 -- `header::write_later` meets its contract. The invariant: the groups written, and those that are left of the number.
-use Rattle.header.proofs.Groups.{Writing, write_laws}
+use Rattle.header.proofs.Groups.{write_laws}
 use Rattle.header.proofs.write_later.Goals as goal
 
 pub bounds-out-i : goal.bounds-out-i

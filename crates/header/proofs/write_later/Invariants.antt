@@ -1,5 +1,5 @@
 -- `header::write_later` meets its contract. The invariant: the groups written, and those that are left of the number.
-use Rattle.header.proofs.Groups.{Writing, write_laws}
+use Rattle.header.proofs.Groups.{Writing}
 use Rattle.header.proofs.write_later.Given as goal
 
 abbrev pub invariant-loop-arg : goal.invariant-loop-arg

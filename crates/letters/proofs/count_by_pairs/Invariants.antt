@@ -1,6 +1,6 @@
 -- `letters::count_by_pairs` meets its contract: what was counted, with what is left, is the whole.
 use Prim.Native.Nat.{◌-◌}
-use Rattle.letters.proofs.Counting.{Counting, pairs_ends}
+use Rattle.letters.proofs.Counting.{Counting}
 use Rattle.letters.proofs.count_by_pairs.Given as goal
 
 abbrev pub invariant-loop-i : goal.invariant-loop-i

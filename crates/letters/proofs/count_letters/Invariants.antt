@@ -1,7 +1,7 @@
 -- `letters::count_letters` meets its contract: what was counted, with what is left, is the whole.
 use Prim.Native.Nat.{◌-◌}
 use lib.ListN.{length}
-use Rattle.letters.proofs.Counting.{Counting, string_ends}
+use Rattle.letters.proofs.Counting.{Counting}
 use Rattle.letters.proofs.count_letters.Given as goal
 
 abbrev pub invariant-loop-i : goal.invariant-loop-i

@@ -1,6 +1,6 @@
 -- `letters::letters_in_part` meets its contract: what was counted, with what is left, is the whole.
 use Prim.Native.Nat.{◌-◌}
-use Rattle.letters.proofs.Counting.{Counting, part_ends}
+use Rattle.letters.proofs.Counting.{Counting}
 use Rattle.letters.proofs.letters_in_part.Given as goal
 
 abbrev pub invariant-loop-i : goal.invariant-loop-i

@@ -1,6 +1,6 @@
 -- `little::filled` meets its contract: a turn of the loop puts one byte more into the block.
 use Prim.Native.Nat.{◌-◌}
-use Rattle.little.proofs.Zeros.{Filling, fill_laws}
+use Rattle.little.proofs.Zeros.{Filling}
 use Rattle.little.proofs.filled.Given as goal
 
 abbrev pub invariant-loop-i : goal.invariant-loop-i

@@ -1,5 +1,4 @@
 -- `recast::integer_from` meets its contract: `From` of the words, cast to the variant.
-use borrow.Author.Rules.{rules}
 use Rattle.recast.proofs.Ends.{words_recast}
 use Rattle.recast.proofs.integer_from.Goals as goal
 

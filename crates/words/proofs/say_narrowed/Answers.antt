@@ -1,5 +1,4 @@
 -- `words::say_narrowed` meets its contract: the narrowing decides.
-use borrow.Author.Rules.{rules}
 use Rattle.words.proofs.Ends.{narrowed_number, narrowed_words}
 use Rattle.words.proofs.say_narrowed.Goals as goal
 

@@ -1,5 +1,4 @@
 -- `words::say_skipped` meets its contract: each arm says its case of the answer.
-use borrow.Author.Rules.{rules}
 use Rattle.words.specs.Layout.{said_skipped}
 use Rattle.words.proofs.Ends.{number_said, words_said, parts}
 use Rattle.words.proofs.say_skipped.Goals as goal
