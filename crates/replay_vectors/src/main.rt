@@ -10,7 +10,7 @@ use libc::{STDIN_FILENO, STDOUT_FILENO};
 use replay_wire::Cursor;
 
 // What became of a line. One that isn't a vector, or whose request isn't answered, is left out.
-#[derive(Drop)]
+#[derive(Clone, Copy)]
 pub enum Verdict {
     Equal,
     Differ,
@@ -18,7 +18,7 @@ pub enum Verdict {
 }
 
 // How many lines there were, how many of them had each verdict, and where the first one that differs starts.
-#[derive(Drop)]
+#[derive(Clone, Copy)]
 pub struct Tally {
     pub lines: u64,
     pub equal: u64,

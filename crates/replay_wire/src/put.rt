@@ -4,7 +4,7 @@ ghost use Rattle.std.specs.Prelude.{◌<◌};
 use crate::fields::Cursor;
 
 // How much of an answer was put, and whether it is one: not if its request could not be read, or there was no room.
-#[derive(Drop)]
+#[derive(Clone, Copy)]
 pub struct Reply {
     pub at: usize,
     pub good: bool,
