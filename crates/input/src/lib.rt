@@ -18,7 +18,7 @@ pub fn read_full<R: Read>(input: &mut R, buffer: &mut [u8]) -> Result<usize>
     while done < buffer.len() {
         let count = input.read(&mut buffer[done..])?;
         if count == 0 {
-            break;
+            return Ok(done);
         }
         done += count;
     }
