@@ -7,7 +7,7 @@ use types::{AtomAnswer, Budget, Kind, Place};
 
 // A read of a sequence: its code, the kind that it names, and the count or the length. A read that names none has
 // zeros.
-#[derive(Drop)]
+#[derive(Clone, Copy)]
 pub struct Wanted {
     pub cursor: Cursor,
     pub code: u64,
@@ -16,7 +16,7 @@ pub struct Wanted {
 }
 
 // How much of an answer was put, and the budget that the next read is handed.
-#[derive(Drop)]
+#[derive(Clone, Copy)]
 pub struct Told {
     pub reply: Reply,
     pub budget: Budget,

@@ -6,11 +6,11 @@
 ghost use Rattle.std.specs.Prelude.{◌≡◌, ◌+◌, ◌<◌, ◌^◌, ◌≤◌, length};
 ghost use Rattle.replay_vectors.specs.Counted.{Counted};
 
-use libc::{STDIN_FILENO, STDOUT_FILENO};
 use replay_wire::Cursor;
+use std::io::{self, Write};
 
 // What became of a line. One that isn't a vector, or whose request isn't answered, is left out.
-#[derive(Drop)]
+#[derive(Clone, Copy)]
 pub enum Verdict {
     Equal,
     Differ,
@@ -18,7 +18,7 @@ pub enum Verdict {
 }
 
 // How many lines there were, how many of them had each verdict, and where the first one that differs starts.
-#[derive(Drop)]
+#[derive(Clone, Copy)]
 pub struct Tally {
     pub lines: u64,
     pub equal: u64,
@@ -98,7 +98,7 @@ pub fn judge(text: &[u8], bytes: &mut [u8], scratch: &mut [u8], out: &mut [u8]) 
 }
 
 // Writes the counts, as `headers: 9 lines, 9 equal, 0 differ, 0 left out`.
-fn write_counts(name: &[u8], tally: Tally) {
+fn write_counts(to: &mut impl Write, name: &[u8], tally: Tally) -> io::Result<()> {
     let mut space = [0u8; 256];
     let out: &mut [u8] = &mut space;
     let mut put = replay_wire::begin(b"", Cursor { at: 0, good: true });
@@ -112,28 +112,36 @@ fn write_counts(name: &[u8], tally: Tally) {
     put = replay_wire::put_text(out, put, b" differ, ");
     put = replay_wire::put_decimal(out, put, tally.omitted);
     put = replay_wire::put_text(out, put, b" left out\n");
-    io::write_all(STDOUT_FILENO, replay_wire::first(out, put.at));
+    to.write_all(replay_wire::first(out, put.at))
 }
 
 // Writes the line that starts there, and below it what was answered instead.
-fn write_difference(line: &[u8], answer: &[u8]) {
-    io::write_all(STDOUT_FILENO, line);
-    io::write_all(STDOUT_FILENO, b"\nanswered: ");
-    io::write_all(STDOUT_FILENO, answer);
-    io::write_all(STDOUT_FILENO, b"\n");
+fn write_difference(to: &mut impl Write, line: &[u8], answer: &[u8]) -> io::Result<()> {
+    to.write_all(line)?;
+    to.write_all(b"\nanswered: ")?;
+    to.write_all(answer)?;
+    to.write_all(b"\n")
 }
 
 // Judges a text and writes its counts, and the first line that differs with what was answered.
-fn report(name: &[u8], text: &[u8], bytes: &mut [u8], scratch: &mut [u8], out: &mut [u8]) {
+fn report(
+    to: &mut impl Write,
+    name: &[u8],
+    text: &[u8],
+    bytes: &mut [u8],
+    scratch: &mut [u8],
+    out: &mut [u8],
+) -> io::Result<()> {
     let tally = judge(text, bytes, scratch, out);
-    write_counts(name, tally);
+    write_counts(to, name, tally)?;
     if 0 < tally.differ {
         let line = replay_wire::line_at(text, tally.first);
         let vector = replay_wire::split(line);
         let request = vector.request;
         let reply = replay_answers::answer(&line[0..request], bytes, scratch, out);
-        write_difference(line, replay_wire::first(out, reply.at));
+        write_difference(to, line, replay_wire::first(out, reply.at))?;
     }
+    Ok(())
 }
 
 // Whether a line is the heading of a topic: its name, and no vector.
@@ -158,23 +166,36 @@ fn topic_end(text: &[u8], start: usize) -> usize
 }
 
 // Judges the topics of a text, each a heading and its vectors, and writes the counts of each under its name.
-fn report_topics(text: &[u8], bytes: &mut [u8], scratch: &mut [u8], out: &mut [u8]) {
+fn report_topics(
+    to: &mut impl Write,
+    text: &[u8],
+    bytes: &mut [u8],
+    scratch: &mut [u8],
+    out: &mut [u8],
+) -> io::Result<()> {
     let mut at = 0;
     while at < text.len() {
         let name = replay_wire::line_at(text, at);
         let start = replay_wire::next_line(text, at);
         let end = topic_end(text, start);
-        report(name, &text[start..end], bytes, scratch, out);
+        report(to, name, &text[start..end], bytes, scratch, out)?;
         at = end;
     }
+    Ok(())
 }
 
 // Replays the vectors on standard input, at most 524,288 bytes, and writes the counts of each topic.
-fn main() {
+fn main(rt: HostRuntime) -> io::Result<()> {
     let mut text = [0u8; 524288];
-    let count = io::read_full(STDIN_FILENO, &mut text);
+    let count = input::read_full(&mut rt.stdin(), &mut text)?;
     let mut bytes = [0u8; 1024];
     let mut scratch = [0u8; 1024];
     let mut out = [0u8; 2048];
-    report_topics(&text[..count], &mut bytes, &mut scratch, &mut out);
+    report_topics(
+        &mut rt.stdout(),
+        &text[..count],
+        &mut bytes,
+        &mut scratch,
+        &mut out,
+    )
 }

@@ -2,21 +2,21 @@
 ghost use Rattle.std.specs.Prelude.{◌+◌, ◌<◌, ◌≤◌, length};
 
 // Where reading stands in a line, and whether every field so far was one.
-#[derive(Drop)]
+#[derive(Clone, Copy)]
 pub struct Cursor {
     pub at: usize,
     pub good: bool,
 }
 
 // A word, and where the next field starts.
-#[derive(Drop)]
+#[derive(Clone, Copy)]
 pub struct Word {
     pub cursor: Cursor,
     pub value: u64,
 }
 
 // A string of bytes that was put into the first bytes of a buffer.
-#[derive(Drop)]
+#[derive(Clone, Copy)]
 pub struct Decoded {
     pub cursor: Cursor,
     pub count: usize,

@@ -2,7 +2,7 @@
 ghost use Rattle.std.specs.Prelude.{◌<◌, ◌≤◌, length};
 
 // Where a vector's request ends and its answer starts, within its line.
-#[derive(Drop)]
+#[derive(Clone, Copy)]
 pub struct Vector {
     pub request: usize,
     pub answer: usize,

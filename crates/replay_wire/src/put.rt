@@ -1,8 +1,10 @@
 // The fields of an answer, put into a lent buffer from its first byte on.
+ghost use Rattle.std.specs.Prelude.{◌<◌};
+
 use crate::fields::Cursor;
 
 // How much of an answer was put, and whether it is one: not if its request could not be read, or there was no room.
-#[derive(Drop)]
+#[derive(Clone, Copy)]
 pub struct Reply {
     pub at: usize,
     pub good: bool,
@@ -60,26 +62,40 @@ fn put_space(out: &mut [u8], reply: Reply) -> Reply {
     put_byte(out, reply, b' ')
 }
 
+// Puts the digit of a number below 16, in lower-case hex.
+fn put_digit(out: &mut [u8], reply: Reply, digit: u8) -> Reply
+    requires { digit < 16 }
+{
+    let byte = if digit < 10 {
+        b'0' + digit
+    } else {
+        b'a' - 10 + digit
+    };
+    put_byte(out, reply, byte)
+}
+
 // Puts a word: lower-case hex without leading zeros.
 pub fn put_word(out: &mut [u8], reply: Reply, value: u64) -> Reply {
-    let spaced = put_space(out, reply);
-    let mut digits = [0u8; 16];
-    let count = io::hex(value, 1, &mut digits);
-    put_text(out, spaced, &digits[..count])
+    let mut put = put_space(out, reply);
+    for i in (0..16u32).rev() {
+        let rest = value >> (4 * i);
+        if rest != 0 || i == 0 {
+            put = put_digit(out, put, (rest % 16) as u8);
+        }
+    }
+    put
 }
 
 // Puts a number in decimal.
 pub fn put_decimal(out: &mut [u8], reply: Reply, value: u64) -> Reply {
-    let mut digits = [0u8; 20];
-    let count = io::decimal(value, &mut digits);
-    put_text(out, reply, &digits[..count])
+    let mut digits = itoa::Buffer::new();
+    put_text(out, reply, digits.format(value).as_bytes())
 }
 
 // Puts the two digits of a byte.
 fn put_pair(out: &mut [u8], reply: Reply, byte: u8) -> Reply {
-    let mut digits = [0u8; 16];
-    let count = io::hex(byte as u64, 2, &mut digits);
-    put_text(out, reply, &digits[..count])
+    let high = put_digit(out, reply, byte / 16);
+    put_digit(out, high, byte % 16)
 }
 
 // Puts a string of bytes, its length first.

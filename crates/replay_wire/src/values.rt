@@ -6,21 +6,21 @@ use crate::put::{Reply, first, put_bytes, put_word};
 use types::{Budget, Kind, KindAnswer, Mark, Place, Places, Refusal, Way, Written};
 
 // A word below 256.
-#[derive(Drop)]
+#[derive(Clone, Copy)]
 pub struct Byte {
     pub cursor: Cursor,
     pub value: u8,
 }
 
 // A kind.
-#[derive(Drop)]
+#[derive(Clone, Copy)]
 pub struct KindField {
     pub cursor: Cursor,
     pub kind: Kind,
 }
 
 // A way, a place and a source, whose bytes are the first of a buffer. Where no way is named, `way` says nothing.
-#[derive(Drop)]
+#[derive(Clone, Copy)]
 pub struct Asked {
     pub cursor: Cursor,
     pub named: bool,

@@ -6,21 +6,21 @@ use replay_wire::{Cursor, Reply};
 use types::{AsWide, Float, Integer, Wide};
 
 // Two words, the low one first.
-#[derive(Drop)]
+#[derive(Clone, Copy)]
 pub struct WideField {
     pub cursor: Cursor,
     pub value: Wide,
 }
 
 // An integer by its variant.
-#[derive(Drop)]
+#[derive(Clone, Copy)]
 pub struct IntegerField {
     pub cursor: Cursor,
     pub value: Integer,
 }
 
 // A float by its width in bytes and its bits.
-#[derive(Drop)]
+#[derive(Clone, Copy)]
 pub struct FloatField {
     pub cursor: Cursor,
     pub width: u64,

@@ -1,15 +1,16 @@
 -- What is meant by a number in decimal: its digits give the number back, each is a digit, the first is no zero but of 0
--- itself, and there are as few as hold it. And the digits that `io::decimal` puts are these.
-use mathlib.Core.Path.{◌≡◌, refl, ◌∙◌, sym, ap, subst}
+-- itself, and there are as few as hold it. And the digits that std prints are these.
+use mathlib.Core.Path.{◌≡◌, refl, ◌∙◌, sym, ap}
 use mathlib.Core.Bool.{Bool, true, false, ◌&&◌}
 use mathlib.Core.List.{List, [], ◌∷◌, ◌++◌}
 use Prim.Native.Nat.{ℕ, zero, suc, ◌+◌, ◌-◌, ◌*◌, ◌/◌, ◌%◌, ◌^◌, ◌≤◌, ◌<◌}
-use native.Mathlib.Nat.{pow-suc, one-le-pow}
+use native.Mathlib.Nat.{pow-suc}
 use native.Mathlib.Omega.{arith}
 use lib.Dec.{ltb, leb}
 use lib.ListN.{length, length-append}
 use borrow.Author.Tests.{lt-ltb, le-ltb, le-leb, ltb-true, ltb-false}
-use Rattle.io.specs.Digits.{hex_digit_ascii, last_digits, IsDigitCount}
+use Rattle.std.specs.Fmt as std
+use Rattle.std.proofs.lemmas.Fmt.{decimal_digit, decimal_step}
 use Rattle.report_text.specs.Texts.{digit, digits_from, decimal}
 
 -- the two cases of the definition
@@ -133,31 +134,21 @@ most (suc k) (suc fuel) n h l =
 pub decimal-most : (k n : ℕ) → n < 10 ^ suc k → length (decimal n) ≤ suc k
 decimal-most k n = most k (suc n) n (omega arith)
 
--- the digits of `io::decimal`
-glyph_digit : (d : ℕ) → d < 10 → hex_digit_ascii d ≡ digit d
-glyph_digit d h = simp (lt-ltb d 10 h)
+-- the digits that std prints, one by one from the right, are these
+printed_at : (fuel n : ℕ) → n < 2 ^ 64 → (10 ≤ n → digits_from fuel (n / 10) ≡ std.decimal (n / 10)) → (t : Bool) →
+    ltb n 10 ≡ t → digits_from (suc fuel) n ≡ std.decimal n
+printed_at fuel n w ih true e =
+    let h : n < 10 = ltb-true n 10 e in
+    one_digit fuel n h ∙ sym (decimal_digit n h)
+printed_at fuel n w ih false e =
+    let h : 10 ≤ n = ltb-false n 10 e in
+    more_digits fuel n h ∙ ap (λ (l : List ℕ). l ++ (digit (n % 10) ∷ [])) (ih h) ∙ sym (decimal_step n h w)
 
-spelled : (k fuel n : ℕ) → n < fuel → n < 10 ^ suc k → (1 < suc k → 10 ^ k ≤ n) →
-    last_digits 10 (suc k) n ≡ digits_from fuel n
-spelled k zero n h l least = absurd (omega arith)
-spelled zero (suc fuel) n h l least =
-    let z : n < 10 = l in
-    let e : n % 10 ≡ n = omega arith in
-    ap (λ (d : ℕ). hex_digit_ascii d ∷ []) e ∙ ap (λ (d : ℕ). d ∷ []) (glyph_digit n z) ∙ sym (one_digit fuel n z)
-spelled (suc k) (suc fuel) n h l least =
-    let z : n < 10 ^ suc k * 10 = rw (pow-suc 10 (suc k)) at l in
-    let p : 10 ^ suc k ≤ n = least (omega arith) in
-    let q : 10 ^ k * 10 ≤ n = rw (pow-suc 10 k) at p in
-    let one : 1 ≤ 10 ^ k = one-le-pow k 10 (omega arith) in
-    let ten : 10 ≤ n = omega arith in
-    ap (λ (xs : List ℕ). xs ++ (hex_digit_ascii (n % 10) ∷ []))
-    (spelled k fuel (n / 10) (omega arith) (omega arith) (λ two. omega arith))
-    ∙ ap (λ (d : ℕ). digits_from fuel (n / 10) ++ (d ∷ [])) (glyph_digit (n % 10) (omega arith))
-    ∙ sym (more_digits fuel n ten)
+printed_from : (fuel n : ℕ) → n < fuel → n < 2 ^ 64 → digits_from fuel n ≡ std.decimal n
+printed_from zero n h w = absurd (omega arith)
+printed_from (suc fuel) n h w =
+    printed_at fuel n w (λ ten. printed_from fuel (n / 10) (omega arith) (omega arith)) (ltb n 10) refl
 
--- THE DIGITS OF `io::decimal` ARE THESE
-pub fewest : (n k : ℕ) → IsDigitCount 10 1 n k → last_digits 10 k n ≡ decimal n
-fewest n zero f = absurd (omega (arith, f.0))
-fewest n (suc k) f =
-    let e : suc k - 1 ≡ k = omega arith in
-    spelled k (suc n) n (omega arith) f.1 (λ two. subst (λ (j : ℕ). 10 ^ j ≤ n) e (f.2 two))
+-- THE DIGITS THAT std PRINTS ARE THESE, and so are those of `itoa`
+pub printed : (n : ℕ) → n < 2 ^ 64 → std.decimal n ≡ decimal n
+printed n w = sym (printed_from (suc n) n (omega arith) w)

@@ -13,13 +13,13 @@ use Rattle.types.specs.declared.Place.{Place}
 use Rattle.types.specs.declared.Refusal.{Refusal}
 use Rattle.types.specs.declared.Tallied.{Tallied}
 use Rattle.types.specs.declared.Written.{Written}
-use Rattle.io.specs.Digits.{last_digits, IsDigitCount}
+use Rattle.std.specs.Fmt as std
 use Rattle.lent.specs.Lent.{written_answer, written_content, copied_over}
 use Rattle.report.specs.Reports.{report_of}
 use Rattle.report.specs.declared.Report.{Report}
 use Rattle.report.specs.declared.Report.TheVariants as RP
 use Rattle.report_text.specs.Texts.{ascii, decimal, line, tally_text, counted_text, refused_text, report_text}
-use Rattle.report_text.proofs.Decimals.{decimal-most, fewest}
+use Rattle.report_text.proofs.Decimals.{decimal-most, printed}
 
 -- bytes that `lent::copy_in` put behind the first `at`
 pub appended : (old bytes filled : List ℕ) (at : ℕ) → at + length bytes ≤ length old →
@@ -39,21 +39,21 @@ appended old bytes filled at h e =
 
 pub ruleset append_ends = (appended, rules)
 
--- a number's digits, as `io::decimal` put them into a buffer
-module _ (n k : ℕ) (out : List ℕ) (f : IsDigitCount 10 1 n k) (e : take k out ≡ last_digits 10 k n) where
-  spelt : take k out ≡ decimal n
-  spelt = e ∙ fewest n k f
+-- a number's digits, as `itoa` writes them
+module _ (n : ℕ) (written : List ℕ) (w : Fits w64 n) (e : written ≡ std.decimal n) where
+  spelt : written ≡ decimal n
+  spelt = e ∙ printed n (omega arith)
 
-  at_most_twenty : Fits w64 n → length (take k out) ≤ 20
-  at_most_twenty h = let m = decimal-most 19 n (omega arith) in rw spelt m
+  at_most_twenty : length written ≤ 20
+  at_most_twenty = let m = decimal-most 19 n (omega arith) in rw spelt m
 
-  pub digits_room : (at room : ℕ) → Fits w64 n → at + 20 ≤ room → at + length (take k out) ≤ room
-  digits_room at room h r = let m = at_most_twenty h in omega arith
+  pub digits_room : (at room : ℕ) → at + 20 ≤ room → at + length written ≤ room
+  digits_room at room r = let m = at_most_twenty in omega arith
 
-  pub digits_end : (at end : ℕ) → Fits w64 n → end ≡ at + length (take k out) → end ≤ at + 20
-  digits_end at end h r = let m = at_most_twenty h in omega arith
+  pub digits_end : (at end : ℕ) → end ≡ at + length written → end ≤ at + 20
+  digits_end at end r = let m = at_most_twenty in omega arith
 
-  pub digits_appended : (start text : List ℕ) → text ≡ start ++ take k out → text ≡ start ++ decimal n
+  pub digits_appended : (start text : List ℕ) → text ≡ start ++ written → text ≡ start ++ decimal n
   digits_appended start text h = h ∙ ap (λ (l : List ℕ). start ++ l) spelt
 
 pub ruleset decimal_ends = (digits_room, digits_end, digits_appended, rules)

@@ -3,7 +3,6 @@
 #![tactic(auto)]
 
 ghost use Rattle.std.specs.Prelude.{◌≡◌, ◌++◌, ◌≤◌, ◌+◌, length, take};
-ghost use Rattle.io.specs.Counts.{IsPrefixLen};
 ghost use Rattle.lent.specs.Lent.{written_answer, written_content};
 ghost use Rattle.report.specs.Reports.{report_of};
 ghost use Rattle.report_text.specs.Texts.{decimal, line, tally_text, counted_text, refused_text, report_text};
@@ -26,9 +25,8 @@ fn append_decimal(text: &mut [u8], at: usize, number: u64) -> usize
     requires { at + 20 ≤ length text.old }
     ensures { (result ≤ at + 20) × (take result text.new ≡ take at text.old ++ decimal number) }
 {
-    let mut digits = [0u8; 20];
-    let count = io::decimal(number, &mut digits);
-    append(text, at, &digits[..count])
+    let mut digits = itoa::Buffer::new();
+    append(text, at, digits.format(number).as_bytes())
 }
 
 // Appends a line: a name with its `=`, a number and a newline.
@@ -101,7 +99,7 @@ pub fn write_report(file: &[u8], out: &mut [u8]) -> Written
 
 // Writes the text into a buffer that has room for every file's, and answers its length.
 pub fn report_into(file: &[u8], out: &mut [u8; 79]) -> usize
-    ensures prefix_len { IsPrefixLen result out.new }
+    ensures prefix_len { (result ≤ length out.new) × (result ≡ length (take result out.new)) }
     ensures value { result ≡ length (report_text (report_of file.now)) }
     ensures out_after { out.new ≡ written_content (report_text (report_of file.now)) out.old }
 {

@@ -1,22 +1,28 @@
 // The tally program: reads one file from standard input and writes its text. Document 01, "Tally". What the text is
-// says the contract of `report_text::report_into`; what is left here is to read and to write.
+// says the contract of `run`, over a reader and a writer whose bytes are known; what is left to `main` is to name
+// standard input and output.
 #![tactic(auto)]
 
-ghost use Rattle.std.specs.Prelude.{◌≡◌, length};
+ghost use Rattle.std.specs.Prelude.{OnOk, IfSome};
+ghost use Rattle.std.specs.Io.KnownBytes.{Appends};
+ghost use Rattle.report.specs.Reports.{report_of};
+ghost use Rattle.report_text.specs.Texts.{report_text};
 
-use libc::{STDIN_FILENO, STDOUT_FILENO};
+use std::io::{self, Read, Write};
 
-// Room for a byte more than a file may have, so that a longer one is seen to be too long.
-fn file_buffer() -> [u8; 65537]
-    ensures { 65537 ≡ length result }
+// Reads a file and writes its text. There is room for a byte more than a file may have, so that a longer one is seen
+// to be too long.
+fn run<R: Read, W: Write>(input: &mut R, output: &mut W) -> io::Result<()>
+    ensures { OnOk result (IfSome (R.remaining input.old) (λ file.
+        Appends (W.contents output.old) (W.contents output.new) (report_text (report_of file)))) }
 {
-    [0; 65537]
-}
-
-fn main() {
-    let mut file = file_buffer();
-    let count = io::read_full(STDIN_FILENO, &mut file);
+    let mut file = [0u8; 65537];
+    let count = input::read_full(input, &mut file)?;
     let mut text = [0u8; 79];
     let length = report_text::report_into(&file[..count], &mut text);
-    io::write_all(STDOUT_FILENO, &text[..length]);
+    output.write_all(&text[..length])
+}
+
+fn main(rt: HostRuntime) -> io::Result<()> {
+    run(&mut rt.stdin(), &mut rt.stdout())
 }

@@ -6,62 +6,60 @@
 
 ghost use Rattle.std.specs.Prelude.{◌≡◌, ◌<◌, length};
 
-use libc::{STDIN_FILENO, STDOUT_FILENO};
+use std::io::{self, Read, Write};
 use types::TallyAnswer;
 
 // Writes a name and a number, in a line.
-fn put(name: &[u8], number: u64) {
-    io::write_all(STDOUT_FILENO, name);
-    io::write_all(STDOUT_FILENO, b": ");
-    io::print_decimal(STDOUT_FILENO, number);
-    io::write_all(STDOUT_FILENO, b"\n");
+fn put(out: &mut impl Write, name: &str, number: u64) -> io::Result<()> {
+    writeln!(out, "{name}: {number}")
 }
 
 // Writes how many letters a string has, by each of the two functions that count them.
-fn run(name: &[u8], string: &[u8]) {
-    put(name, letters::count_letters(string));
+fn run(out: &mut impl Write, name: &str, string: &[u8]) -> io::Result<()> {
+    put(out, name, letters::count_letters(string))?;
     if letters::count_word(string) != letters::count_letters(string) {
-        put(b"but as a word", letters::count_word(string));
+        put(out, "but as a word", letters::count_word(string))?;
     }
+    Ok(())
 }
 
 // Strings without a byte that a mark may begin with.
-fn run_plain() {
-    run(b"nothing", b"");
-    run(b"65", b"\x65");
-    run(b"7F 80 BF C0 FF", b"\x7F\x80\xBF\xC0\xFF");
+fn run_plain(out: &mut impl Write) -> io::Result<()> {
+    run(out, "nothing", b"")?;
+    run(out, "65", b"\x65")?;
+    run(out, "7F 80 BF C0 FF", b"\x7F\x80\xBF\xC0\xFF")
 }
 
 // CC, before each edge of what makes it a mark.
-fn run_cc() {
-    run(b"65 CC 81", b"\x65\xCC\x81");
-    run(b"CC 7F", b"\xCC\x7F");
-    run(b"CC 80", b"\xCC\x80");
-    run(b"CC BF", b"\xCC\xBF");
-    run(b"CC C0", b"\xCC\xC0");
+fn run_cc(out: &mut impl Write) -> io::Result<()> {
+    run(out, "65 CC 81", b"\x65\xCC\x81")?;
+    run(out, "CC 7F", b"\xCC\x7F")?;
+    run(out, "CC 80", b"\xCC\x80")?;
+    run(out, "CC BF", b"\xCC\xBF")?;
+    run(out, "CC C0", b"\xCC\xC0")
 }
 
 // CD, and its neighbours.
-fn run_cd() {
-    run(b"CD 7F", b"\xCD\x7F");
-    run(b"CD 80", b"\xCD\x80");
-    run(b"CD AF", b"\xCD\xAF");
-    run(b"CD B0", b"\xCD\xB0");
-    run(b"CD BF", b"\xCD\xBF");
-    run(b"CB 80", b"\xCB\x80");
-    run(b"CE 80", b"\xCE\x80");
+fn run_cd(out: &mut impl Write) -> io::Result<()> {
+    run(out, "CD 7F", b"\xCD\x7F")?;
+    run(out, "CD 80", b"\xCD\x80")?;
+    run(out, "CD AF", b"\xCD\xAF")?;
+    run(out, "CD B0", b"\xCD\xB0")?;
+    run(out, "CD BF", b"\xCD\xBF")?;
+    run(out, "CB 80", b"\xCB\x80")?;
+    run(out, "CE 80", b"\xCE\x80")
 }
 
 // At the end of the string, and one after the other.
-fn run_ends() {
-    run(b"CC", b"\xCC");
-    run(b"CD", b"\xCD");
-    run(b"65 CC", b"\x65\xCC");
-    run(b"CC CC 80", b"\xCC\xCC\x80");
-    run(b"CC CD 80", b"\xCC\xCD\x80");
-    run(b"CD CC 80", b"\xCD\xCC\x80");
-    run(b"CC 80 80", b"\xCC\x80\x80");
-    run(b"CC 80 CC 80 CC", b"\xCC\x80\xCC\x80\xCC");
+fn run_ends(out: &mut impl Write) -> io::Result<()> {
+    run(out, "CC", b"\xCC")?;
+    run(out, "CD", b"\xCD")?;
+    run(out, "65 CC", b"\x65\xCC")?;
+    run(out, "CC CC 80", b"\xCC\xCC\x80")?;
+    run(out, "CC CD 80", b"\xCC\xCD\x80")?;
+    run(out, "CD CC 80", b"\xCD\xCC\x80")?;
+    run(out, "CC 80 80", b"\xCC\x80\x80")?;
+    run(out, "CC 80 CC 80 CC", b"\xCC\x80\xCC\x80\xCC")
 }
 
 // 600 letters, but for a pair at a place.
@@ -76,105 +74,104 @@ fn with_pair(at: usize, first: u8, second: u8) -> [u8; 600]
 }
 
 // Writes a place, and how many letters a string has.
-fn put_at(at: usize, name: &[u8], string: &[u8]) {
-    io::print_decimal(STDOUT_FILENO, at as u64);
-    run(name, string);
+fn put_at(out: &mut impl Write, at: usize, name: &str, string: &[u8]) -> io::Result<()> {
+    write!(out, "{at}")?;
+    run(out, name, string)
 }
 
 // The same of what ends with the byte at that place.
-fn put_cut(at: usize, string: &[u8])
+fn put_cut(out: &mut impl Write, at: usize, string: &[u8]) -> io::Result<()>
     requires { at < length string.now }
 {
     let count = at + 1;
-    put_at(at, b", ends with CC", &string[0..count]);
+    put_at(out, at, ", ends with CC", &string[0..count])
 }
 
 // Of 600 bytes, the letters with a pair at a place that is no mark, with one that is, and of what ends with its first
 // byte: where letters are counted in parts, a pair may lie across two.
-fn run_at(at: usize)
+fn run_at(out: &mut impl Write, at: usize) -> io::Result<()>
     requires { at < 599 }
 {
-    put_at(at, b", CD B0", &with_pair(at, 0xCD, 0xB0));
+    put_at(out, at, ", CD B0", &with_pair(at, 0xCD, 0xB0))?;
     let bytes = with_pair(at, 0xCC, 0xB0);
-    put_at(at, b", CC B0", &bytes);
-    put_cut(at, &bytes);
+    put_at(out, at, ", CC B0", &bytes)?;
+    put_cut(out, at, &bytes)
 }
 
 // At each place around another.
-fn run_around(middle: usize)
+fn run_around(out: &mut impl Write, middle: usize) -> io::Result<()>
     requires { (2 < middle) × (middle < 596) }
 {
-    run_at(middle - 3);
-    run_at(middle - 2);
-    run_at(middle - 1);
-    run_at(middle);
-    run_at(middle + 1);
-    run_at(middle + 2);
+    run_at(out, middle - 3)?;
+    run_at(out, middle - 2)?;
+    run_at(out, middle - 1)?;
+    run_at(out, middle)?;
+    run_at(out, middle + 1)?;
+    run_at(out, middle + 2)
 }
 
 // Writes how many letters a list of atoms has.
-fn run_tally(name: &[u8], atoms: &[u8]) {
+fn run_tally(out: &mut impl Write, name: &str, atoms: &[u8]) -> io::Result<()> {
     match dictionary::tally(atoms) {
-        TallyAnswer::Done(_, tallied) => put(name, tallied.letters),
-        _ => {
-            io::write_all(STDOUT_FILENO, b"refused\n");
-        }
-    };
+        TallyAnswer::Done(_, tallied) => put(out, name, tallied.letters),
+        _ => writeln!(out, "refused"),
+    }
 }
 
 // A string that ends with a pair's first byte, and an atom after it whose first byte would be the second.
-fn run_tallies() {
-    run_tally(b"E1 CC, then 80", b"\xE1\xCC\x80");
-    run_tally(b"E1 CD, then AF", b"\xE1\xCD\xAF");
-    run_tally(b"E2 65 CC, then 80", b"\xE2\x65\xCC\x80");
-    run_tally(b"E2 CC 80", b"\xE2\xCC\x80");
+fn run_tallies(out: &mut impl Write) -> io::Result<()> {
+    run_tally(out, "E1 CC, then 80", b"\xE1\xCC\x80")?;
+    run_tally(out, "E1 CD, then AF", b"\xE1\xCD\xAF")?;
+    run_tally(out, "E2 65 CC, then 80", b"\xE2\x65\xCC\x80")?;
+    run_tally(out, "E2 CC 80", b"\xE2\xCC\x80")?;
     run_tally(
-        b"F1 01 of 16 letters and CC, then 80",
+        out,
+        "F1 01 of 16 letters and CC, then 80",
         b"\xF1\x01aaaaaaaaaaaaaaaa\xCC\x80",
-    );
+    )?;
     run_tally(
-        b"F2 01 of 16 letters and CC 80",
+        out,
+        "F2 01 of 16 letters and CC 80",
         b"\xF2\x01aaaaaaaaaaaaaaaa\xCC\x80",
-    );
-    run_tally(b"E1 CC, then E1 80", b"\xE1\xCC\xE1\x80");
+    )?;
+    run_tally(out, "E1 CC, then E1 80", b"\xE1\xCC\xE1\x80")?;
     run_tally(
-        b"E2 CC 80, then E2 CD AF, then E2 CD B0",
+        out,
+        "E2 CC 80, then E2 CD AF, then E2 CD B0",
         b"\xE2\xCC\x80\xE2\xCD\xAF\xE2\xCD\xB0",
-    );
+    )
 }
 
 // Writes how many bytes and letters each line of a text has.
-fn run_lines(text: &[u8]) {
-    let mut start: usize = 0;
-    let mut i: usize = 0;
-    while i < text.len() {
-        if text[i] == 0x0A {
-            io::print_decimal(STDOUT_FILENO, (i - start) as u64);
-            run(b" bytes", &text[start..i]);
-            i += 1;
-            start = i;
-            continue;
+fn run_lines(out: &mut impl Write, text: &[u8]) -> io::Result<()> {
+    let mut start = 0;
+    for i in 0..text.len() {
+        if text[i] == b'\n' {
+            write!(out, "{}", i - start)?;
+            run(out, " bytes", &text[start..i])?;
+            start = i + 1;
         }
-        i += 1;
     }
+    Ok(())
 }
 
 // Standard input has texts with their marks as parts of the letters, and the same after them: of as many letters where
 // all marks are from U+0300 to U+036F, as those of Vietnamese and French are, and those of Japanese (U+3099) are not.
-fn run_texts() {
-    let mut text = io::buffer();
-    let count = io::read_full(STDIN_FILENO, &mut text);
-    run_lines(&text[..count]);
+fn run_texts(out: &mut impl Write, input: &mut impl Read) -> io::Result<()> {
+    let mut text = [0; 4096];
+    let count = input::read_full(input, &mut text)?;
+    run_lines(out, &text[..count])
 }
 
-fn main() {
-    run_plain();
-    run_cc();
-    run_cd();
-    run_ends();
-    run_around(192);
-    run_around(384);
-    run_around(576);
-    run_tallies();
-    run_texts();
+fn main(rt: HostRuntime) -> io::Result<()> {
+    let out = &mut rt.stdout();
+    run_plain(out)?;
+    run_cc(out)?;
+    run_cd(out)?;
+    run_ends(out)?;
+    run_around(out, 192)?;
+    run_around(out, 384)?;
+    run_around(out, 576)?;
+    run_tallies(out)?;
+    run_texts(out, &mut rt.stdin())
 }

@@ -8,69 +8,85 @@
 // that names no way now reads exactly, strings lent".
 #![tactic(auto)]
 
-use libc::STDOUT_FILENO;
+use std::io::{self, Write};
 use types::{Atom, AtomAnswer, Budget, Mark, Nucleus, Place, Way};
 
 // Writes a part.
-fn put_part(part: &[u8]) {
-    io::write_all(STDOUT_FILENO, b"[");
-    io::write_all(STDOUT_FILENO, part);
-    io::write_all(STDOUT_FILENO, b"]\n");
+fn put_part(out: &mut impl Write, part: &[u8]) -> io::Result<()> {
+    out.write_all(b"[")?;
+    out.write_all(part)?;
+    out.write_all(b"]\n")
 }
 
 // Writes the part of a mark made by hand, once of the source and once of the scratch.
-fn put_both<'a>(source: &'a [u8], scratch: &'a [u8], start: usize, len: usize) {
+fn put_both<'a>(
+    out: &mut impl Write,
+    source: &'a [u8],
+    scratch: &'a [u8],
+    start: usize,
+    len: usize,
+) -> io::Result<()> {
     let lent = true;
-    put_part(reader::as_slice(source, scratch, Mark { start, len, lent }));
+    put_part(
+        out,
+        reader::as_slice(source, scratch, Mark { start, len, lent }),
+    )?;
     let lent = false;
-    put_part(reader::as_slice(source, scratch, Mark { start, len, lent }));
+    put_part(
+        out,
+        reader::as_slice(source, scratch, Mark { start, len, lent }),
+    )
 }
 
 // Writes three numbers.
-fn put_three(first: u64, second: u64, third: u64) {
-    io::print_decimal(STDOUT_FILENO, first);
-    io::write_all(STDOUT_FILENO, b" ");
-    io::print_decimal(STDOUT_FILENO, second);
-    io::write_all(STDOUT_FILENO, b" ");
-    io::print_decimal(STDOUT_FILENO, third);
-    io::write_all(STDOUT_FILENO, b"\n");
+fn put_three(out: &mut impl Write, first: u64, second: u64, third: u64) -> io::Result<()> {
+    writeln!(out, "{first} {second} {third}")
 }
 
 // Writes an atom's places, and the string that it is, or that it is none.
-fn put_atom<'a>(source: &'a [u8], scratch: &'a [u8], atom: Atom) {
+fn put_atom<'a>(
+    out: &mut impl Write,
+    source: &'a [u8],
+    scratch: &'a [u8],
+    atom: Atom,
+) -> io::Result<()> {
     let places = atom.places;
     let first = places.first;
     let body = places.body;
     let after = places.after;
-    put_three(first.0 as u64, body.0 as u64, after.0 as u64);
+    put_three(out, first.0 as u64, body.0 as u64, after.0 as u64)?;
     let nucleus = atom.nucleus;
     let Nucleus::Bytes(mark) = nucleus else {
-        io::write_all(STDOUT_FILENO, b"no string\n");
-        return;
+        return out.write_all(b"no string\n");
     };
-    put_part(reader::as_slice(source, scratch, mark));
+    put_part(out, reader::as_slice(source, scratch, mark))
 }
 
 // Writes the atom of an answer, or its refusal.
-fn put_answer<'a>(source: &'a [u8], scratch: &'a [u8], answer: AtomAnswer) {
+fn put_answer<'a>(
+    out: &mut impl Write,
+    source: &'a [u8],
+    scratch: &'a [u8],
+    answer: AtomAnswer,
+) -> io::Result<()> {
     match answer {
-        AtomAnswer::Read(_, _, atom) => put_atom(source, scratch, atom),
+        AtomAnswer::Read(_, _, atom) => put_atom(out, source, scratch, atom),
         AtomAnswer::Refused(place, budget, refusal) => {
-            io::write_all(STDOUT_FILENO, b"refused ");
-            put_three(refusal.number(), place.0 as u64, budget.0);
+            out.write_all(b"refused ")?;
+            put_three(out, refusal.number(), place.0 as u64, budget.0)
         }
     }
 }
 
 // Reads the atom at a place by the entry that names no way, filled, and copied into a scratch, which is written too. Of
 // the string all is there; then come a sequence, a number without its last byte, and the end.
-fn put_read(place: usize) {
+fn put_read(out: &mut impl Write, place: usize) -> io::Result<()> {
     let source = b"\xE3abc\x83\x41\x2C";
     let mut scratch = [0x2Du8; 8];
     let answer = atom::read_atom(source, Place(place), Budget(8));
-    put_answer(source, &scratch, answer);
+    put_answer(out, source, &scratch, answer)?;
     let filled = atom::read_atom_by(source, Place(place), Budget(8), &mut scratch, Way::Filled);
-    put_answer(source, &scratch, filled);
+    put_answer(out, source, &scratch, filled)?;
     let copied = atom::read_atom_by(
         source,
         Place(place),
@@ -78,22 +94,23 @@ fn put_read(place: usize) {
         &mut scratch,
         Way::ExactCopied,
     );
-    put_answer(source, &scratch, copied);
-    put_part(&scratch);
+    put_answer(out, source, &scratch, copied)?;
+    put_part(out, &scratch)
 }
 
-fn main() {
+fn main(rt: HostRuntime) -> io::Result<()> {
+    let out = &mut rt.stdout();
     let source = b"the source";
     let scratch = b"a scratch";
-    put_both(source, scratch, 0, 3);
-    put_both(source, scratch, 4, 5);
-    put_both(source, scratch, 4, 6);
-    put_both(source, scratch, 9, 0);
-    put_both(source, scratch, 10, 0);
-    put_both(source, scratch, 11, 0);
-    put_both(source, scratch, 18_446_744_073_709_551_615, 2);
-    put_read(0);
-    put_read(4);
-    put_read(5);
-    put_read(7);
+    put_both(out, source, scratch, 0, 3)?;
+    put_both(out, source, scratch, 4, 5)?;
+    put_both(out, source, scratch, 4, 6)?;
+    put_both(out, source, scratch, 9, 0)?;
+    put_both(out, source, scratch, 10, 0)?;
+    put_both(out, source, scratch, 11, 0)?;
+    put_both(out, source, scratch, 18_446_744_073_709_551_615, 2)?;
+    put_read(out, 0)?;
+    put_read(out, 4)?;
+    put_read(out, 5)?;
+    put_read(out, 7)
 }

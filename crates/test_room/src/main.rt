@@ -4,8 +4,8 @@
 // that the program is held to were worked out from document 01's text apart from it, not taken from what it writes.
 #![tactic(auto)]
 
-use libc::{STDIN_FILENO, STDOUT_FILENO};
 use replay_wire::{Cursor, Reply};
+use std::io::{self, Write};
 
 fn mark_untouched(buffer: &mut [u8]) {
     let mut i = 0;
@@ -16,30 +16,50 @@ fn mark_untouched(buffer: &mut [u8]) {
 }
 
 // Writes the line, its answer, and what the buffer holds.
-fn write_answer(line: &[u8], reply: Reply, out: &mut [u8], buffer: &[u8]) {
-    io::write_all(STDOUT_FILENO, line);
-    io::write_all(STDOUT_FILENO, b" = ");
+fn write_answer(
+    to: &mut impl Write,
+    line: &[u8],
+    reply: Reply,
+    out: &mut [u8],
+    buffer: &[u8],
+) -> io::Result<()> {
+    to.write_all(line)?;
+    to.write_all(b" = ")?;
     if reply.good {
-        io::write_all(STDOUT_FILENO, replay_wire::first(out, reply.at));
+        to.write_all(replay_wire::first(out, reply.at))?;
     }
-    io::write_all(STDOUT_FILENO, b" / ");
+    to.write_all(b" / ")?;
     let put = replay_wire::put_bytes(out, Reply { at: 0, good: true }, buffer);
-    io::write_all(STDOUT_FILENO, replay_wire::first(out, put.at));
-    io::write_all(STDOUT_FILENO, b"\n");
+    to.write_all(replay_wire::first(out, put.at))?;
+    to.write_all(b"\n")
 }
 
 // Asks a writer to write into the buffer.
-fn write_into(buffer: &mut [u8], line: &[u8], request: &[u8], scratch: &mut [u8], out: &mut [u8]) {
+fn write_into(
+    to: &mut impl Write,
+    buffer: &mut [u8],
+    line: &[u8],
+    request: &[u8],
+    scratch: &mut [u8],
+    out: &mut [u8],
+) -> io::Result<()> {
     mark_untouched(buffer);
     let reply = replay_answers::answer(request, buffer, scratch, out);
-    write_answer(line, reply, out, buffer);
+    write_answer(to, line, reply, out, buffer)
 }
 
 // Asks a reader to copy a string into the buffer.
-fn copy_into(buffer: &mut [u8], line: &[u8], request: &[u8], bytes: &mut [u8], out: &mut [u8]) {
+fn copy_into(
+    to: &mut impl Write,
+    buffer: &mut [u8],
+    line: &[u8],
+    request: &[u8],
+    bytes: &mut [u8],
+    out: &mut [u8],
+) -> io::Result<()> {
     mark_untouched(buffer);
     let reply = replay_answers::answer(request, bytes, buffer, out);
-    write_answer(line, reply, out, buffer);
+    write_answer(to, line, reply, out, buffer)
 }
 
 // Whether a code asks a reader.
@@ -52,45 +72,74 @@ fn is_reader(code: u64) -> bool {
 
 // Answers a request with a buffer of that many bytes.
 fn ask_with(
+    to: &mut impl Write,
     room: usize,
     line: &[u8],
     request: &[u8],
     buffer: &mut [u8],
     other: &mut [u8],
     out: &mut [u8],
-) {
+) -> io::Result<()> {
     let code = replay_wire::read_word(request, Cursor { at: 0, good: true });
-    if room <= buffer.len() {
-        if is_reader(code.value) {
-            copy_into(&mut buffer[0..room], line, request, other, out);
-        } else {
-            write_into(&mut buffer[0..room], line, request, other, out);
-        }
+    if buffer.len() < room {
+        return Ok(());
     }
+    if is_reader(code.value) {
+        return copy_into(to, &mut buffer[0..room], line, request, other, out);
+    }
+    write_into(to, &mut buffer[0..room], line, request, other, out)
 }
 
-fn ask_line(line: &[u8], buffer: &mut [u8], other: &mut [u8], out: &mut [u8]) {
+fn ask_line(
+    to: &mut impl Write,
+    line: &[u8],
+    buffer: &mut [u8],
+    other: &mut [u8],
+    out: &mut [u8],
+) -> io::Result<()> {
     let room = replay_wire::read_word(line, Cursor { at: 0, good: true });
     let next = room.cursor;
     let at = next.at;
-    if at <= line.len() {
-        ask_with(room.value as usize, line, &line[at..], buffer, other, out);
+    if line.len() < at {
+        return Ok(());
     }
+    ask_with(
+        to,
+        room.value as usize,
+        line,
+        &line[at..],
+        buffer,
+        other,
+        out,
+    )
 }
 
-fn ask(text: &[u8], buffer: &mut [u8], other: &mut [u8], out: &mut [u8]) {
+fn ask(
+    to: &mut impl Write,
+    text: &[u8],
+    buffer: &mut [u8],
+    other: &mut [u8],
+    out: &mut [u8],
+) -> io::Result<()> {
     let mut at = 0;
     while at < text.len() {
-        ask_line(replay_wire::line_at(text, at), buffer, other, out);
+        ask_line(to, replay_wire::line_at(text, at), buffer, other, out)?;
         at = replay_wire::next_line(text, at);
     }
+    Ok(())
 }
 
-fn main() {
-    let mut text = io::large_buffer();
-    let count = io::read_full(STDIN_FILENO, &mut text);
+fn main(rt: HostRuntime) -> io::Result<()> {
+    let mut text = [0u8; 65536];
+    let count = input::read_full(&mut rt.stdin(), &mut text)?;
     let mut buffer = [0u8; 64];
     let mut other = [0u8; 64];
     let mut out = [0u8; 512];
-    ask(&text[..count], &mut buffer, &mut other, &mut out);
+    ask(
+        &mut rt.stdout(),
+        &text[..count],
+        &mut buffer,
+        &mut other,
+        &mut out,
+    )
 }

@@ -6,13 +6,13 @@
 ghost use Rattle.std.specs.Prelude.{◌≡◌};
 ghost use Rattle.test_slice_reader.specs.Held.{held_over};
 
-use libc::STDOUT_FILENO;
 use slice_reader::SliceReader;
+use std::io;
 use types::{Integer, IntegerAnswer, Kind};
 
 // What a reader that is held over two reads says: how many bytes it has to read before them, what each read answers,
 // how many bytes it has to read after them, and whether there are none.
-#[derive(Drop)]
+#[derive(Clone, Copy)]
 struct Held {
     before: usize,
     first: IntegerAnswer,
@@ -40,32 +40,27 @@ fn held_over(data: &[u8], kind: Kind, count: u64) -> Held
     }
 }
 
-// Writes a byte as a number, or that it is none.
-fn write_byte(integer: Integer) {
+// Writes a byte as a number, or that it is none, in a line.
+fn write_byte(rt: &impl Print, integer: Integer) -> io::Result<()> {
     match integer {
-        Integer::U8(byte) => io::print_decimal(STDOUT_FILENO, byte as u64),
-        _ => io::write_all(STDOUT_FILENO, b"not a byte"),
-    };
+        Integer::U8(byte) => println!(rt; "{byte}"),
+        _ => println!(rt; "not a byte"),
+    }
 }
 
 // Writes what a read answered, in a line.
-fn write_answer(answer: IntegerAnswer) {
+fn write_answer(rt: &impl Print, answer: IntegerAnswer) -> io::Result<()> {
     match answer {
-        IntegerAnswer::Read(_, integer) => write_byte(integer),
-        IntegerAnswer::Refused(_, _) => {
-            io::write_all(STDOUT_FILENO, b"refused");
-        }
+        IntegerAnswer::Read(_, integer) => write_byte(rt, integer),
+        IntegerAnswer::Refused(_, _) => println!(rt; "refused"),
     }
-    io::write_all(STDOUT_FILENO, b"\n");
 }
 
-fn main() {
+fn main(rt: HostRuntime) -> io::Result<()> {
     let held = held_over(b"ab", Kind::UInt, 1);
     check::expect(held.before == 2);
     check::expect(held.after == 0);
     check::expect(held.empty);
-    let first = held.first;
-    let second = held.second;
-    write_answer(first);
-    write_answer(second);
+    write_answer(&rt, held.first)?;
+    write_answer(&rt, held.second)
 }
