@@ -6,7 +6,7 @@ fn main() {
         .unwrap_or_else(|_| concat!(env!("CARGO_MANIFEST_DIR"), "/../target/native").to_string());
     if !Path::new(&folder).join("libdimewagon.a").exists() {
         println!("cargo:warning=no libdimewagon.a in {folder}: DIMEWAGON_LIB names its folder, and the repository's");
-        println!("cargo:warning=tools/staticlib exports target/native/libdimewagon.a makes it");
+        println!("cargo:warning=tools/staticlib exports_c target/native/libdimewagon.a makes it");
     }
     println!("cargo:rustc-link-search=native={folder}");
     println!("cargo:rustc-link-lib=static=dimewagon");
