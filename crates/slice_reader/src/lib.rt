@@ -219,7 +219,7 @@ impl<'a> SliceReader<'a> {
 impl<'a> IntegerRead<'a> {
     // The slice still to be read after an integer.
     pub fn rest(self) -> &'a [u8]
-        ensures { result ≡ self.entry.reader.«data» }
+        ensures after_integer { result ≡ self.entry.reader.«data» }
     {
         self.reader.data
     }
@@ -228,7 +228,7 @@ impl<'a> IntegerRead<'a> {
 impl<'a> FloatRead<'a> {
     // The slice still to be read after a float.
     pub fn rest(self) -> &'a [u8]
-        ensures { result ≡ self.entry.reader.«data» }
+        ensures after_float { result ≡ self.entry.reader.«data» }
     {
         self.reader.data
     }
@@ -237,7 +237,7 @@ impl<'a> FloatRead<'a> {
 impl<'a> StringRead<'a> {
     // The slice still to be read after a string.
     pub fn rest(self) -> &'a [u8]
-        ensures { result ≡ self.entry.reader.«data» }
+        ensures after_string { result ≡ self.entry.reader.«data» }
     {
         self.reader.data
     }
@@ -246,7 +246,7 @@ impl<'a> StringRead<'a> {
 impl<'a> AtomRead<'a> {
     // The slice still to be read after an atom.
     pub fn rest(self) -> &'a [u8]
-        ensures { result ≡ self.entry.reader.«data» }
+        ensures after_atom { result ≡ self.entry.reader.«data» }
     {
         self.reader.data
     }
