@@ -18,7 +18,6 @@ use Rattle.types.specs.declared.Place.{Place}
 use Rattle.types.specs.declared.Budget.{Budget}
 use Rattle.types.specs.declared.Nucleus.TheVariants as N
 use Rattle.types.specs.declared.BudgetAnswer.TheVariants as BA
-use Rattle.types.specs.declared.AtomAnswer.TheVariants as A
 use Rattle.header.specs.Header.{header_bytes, header_from}
 use Rattle.header.proofs.RoundTrip.{header_back}
 use Rattle.reader.specs.Strings.{string_answer, string_mark, scratch_needed}

@@ -6,7 +6,6 @@ use Prim.Native.Nat.{ℕ, ◌+◌, ◌-◌, ◌≤◌, ◌<◌}
 use native.Mathlib.Omega.{arith}
 use borrow.Author.Rules.{rules}
 use borrow.Author.Tests.{lt-ltb, eq-eqb, ne_eqb}
-use lib.Dec.{ltb, leb}
 use lib.ListN.{length}
 use types.Run.{OneOf, miss}
 use denote.Enum.Declared.{tag_of}
@@ -31,7 +30,6 @@ use Rattle.types.specs.declared.BudgetAnswer.TheVariants as BA
 use Rattle.types.specs.declared.HeaderAnswer.{HeaderAnswer}
 use Rattle.types.specs.declared.HeaderAnswer.TheVariants as H
 use Rattle.types.specs.declared.TallyAnswer.TheVariants as TA
-use Rattle.types.specs.declared.Skipped.{Skipped}
 use Rattle.types.specs.declared.Skipped.TheVariants as SK
 use Rattle.header.specs.Header.{header_read}
 use Rattle.header.proofs.Places.{header_place, header_place_lem}
@@ -41,7 +39,7 @@ use Rattle.atom.specs.Charges.{budget_after}
 use Rattle.atom.specs.Atoms.{atom_read, first_place}
 use Rattle.dictionary.specs.declared.Step.{Step}
 use Rattle.dictionary.specs.declared.Step.TheVariants as ST
-use Rattle.dictionary.specs.Steps.{skipped, body_past, lean, stepped, body_step, step_after, last_of}
+use Rattle.dictionary.specs.Steps.{skipped, lean, stepped, body_step, step_after, last_of}
 use Rattle.dictionary.proofs.Bodies.{over, afforded, past_over, past_unknown, past_eof, past_whole, header_only, special_past, special_other}
 use Rattle.dictionary.proofs.Bodies.{after_header, any_first}
 use Rattle.dictionary.proofs.Steps.{told_past, told_refused}

@@ -1,6 +1,6 @@
 -- The step of a run: an atom read exactly, strings lent, and its value forgotten. Document 01, "Two ways of reading";
 -- document 02, K1: it answers the same three places.
-use Rattle.std.specs.Prelude.{ℕ, ◌+◌, ◌-◌, ◌/◌, Bool, true, false, List, [], ltb, leb, eqb, get_or}
+use Rattle.std.specs.Prelude.{ℕ, ◌+◌, ◌-◌, ◌/◌, Bool, true, List, [], ltb, leb, eqb, get_or}
 use Rattle.types.specs.Choice.{pick}
 use Rattle.types.specs.Counters.{places_of}
 use Rattle.types.specs.Forms.{known, body_length, charge_of, is_string, unknown}

@@ -84,12 +84,7 @@ pub fn pot_read_atom(source: &[u8], place: usize, budget: u64, words: &mut [u64]
 }
 
 // Reads an atom, with zeros for what is missing of a header or a number; a string is lent.
-pub fn pot_read_atom_filled(
-    source: &[u8],
-    place: usize,
-    budget: u64,
-    words: &mut [u64],
-) -> u64
+pub fn pot_read_atom_filled(source: &[u8], place: usize, budget: u64, words: &mut [u64]) -> u64
     ensures value { result ≡
         number_of (said_atom (atom_read Filled source.now place (record { 0 = budget }) []))
         words.old }
@@ -102,12 +97,7 @@ pub fn pot_read_atom_filled(
 }
 
 // Reads an atom exactly; a string is lent.
-pub fn pot_read_atom_exact(
-    source: &[u8],
-    place: usize,
-    budget: u64,
-    words: &mut [u64],
-) -> u64
+pub fn pot_read_atom_exact(source: &[u8], place: usize, budget: u64, words: &mut [u64]) -> u64
     ensures value { result ≡
         number_of (said_atom (atom_read ExactLent source.now place (record { 0 = budget }) []))
         words.old }
@@ -546,12 +536,7 @@ pub fn pot_write_f64(out: &mut [u8], bits: u64, words: &mut [u64]) -> u64
 }
 
 // Writes an atom header, of a kind given by its code.
-pub fn pot_write_atom_header(
-    out: &mut [u8],
-    kind: u8,
-    arg: u64,
-    words: &mut [u64],
-) -> u64
+pub fn pot_write_atom_header(out: &mut [u8], kind: u8, arg: u64, words: &mut [u64]) -> u64
     ensures value { result ≡
         number_of (said_written (of_kind (λ k. written_answer (header_bytes k arg) out.old) Refused
         (kind_from kind))) words.old }
@@ -643,13 +628,7 @@ pub fn pot_write_bool(out: &mut [u8], value: u8, words: &mut [u64]) -> u64
 }
 
 // Casts an integer to the variant of a number.
-pub fn pot_integer_cast(
-    to: u64,
-    variant: u64,
-    low: u64,
-    high: u64,
-    words: &mut [u64],
-) -> u64
+pub fn pot_integer_cast(to: u64, variant: u64, low: u64, high: u64, words: &mut [u64]) -> u64
     ensures value { result ≡
         number_of (of_integer (λ x. said_cast (recast to x)) said_refused
         (integer_of_words variant (record { lo = low; hi = high }))) words.old }

@@ -18,7 +18,6 @@ use Rattle.types.specs.declared.Float.TheVariants as F
 use Rattle.types.specs.declared.Refusal.TheVariants as R
 use Rattle.types.specs.declared.Integer.{Integer}
 use Rattle.types.specs.declared.AsInteger.{AsInteger}
-use Rattle.types.specs.declared.AsInteger.TheVariants as AsInteger
 use Rattle.binary.specs.Formats.{double, negative, exponent, fraction, magnitude}
 use Rattle.binary.specs.Formats.{Meaning, finite, infinite, nan, meaning}
 use Rattle.binary.specs.Floats.{float_meaning, plain}
@@ -29,7 +28,6 @@ use Rattle.cast.specs.Froms.{from}
 use Rattle.float_cast.specs.Integral.{one, least, clamped, integral, as_integer}
 use Rattle.float_cast.specs.Steps.{most, whole_of, whole_from}
 use Rattle.float_cast.specs.declared.Whole.{Whole}
-use Rattle.float_cast.specs.declared.Whole.TheVariants as Whole
 use Rattle.float_cast.proofs.Clamps.{clamped-least}
 use Rattle.float_cast.proofs.Wholes.{field_below, field_above}
 

@@ -15,7 +15,6 @@ use Rattle.binary.proofs.Steps.{shift_back}
 use Rattle.float_cast.specs.Integral.{one, least}
 use Rattle.float_cast.specs.Steps.{most, whole_of}
 use Rattle.float_cast.specs.declared.Whole.{Whole}
-use Rattle.float_cast.specs.declared.Whole.TheVariants as Whole
 use Rattle.float_cast.proofs.Clamps.{least_left, least_right}
 
 -- ---- by the remainder and the quotient

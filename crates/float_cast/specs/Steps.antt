@@ -5,7 +5,6 @@ use Rattle.types.specs.Choice.{pick}
 use Rattle.binary.specs.Formats.{Meaning, finite, infinite, nan}
 use Rattle.float_cast.specs.Integral.{one, least}
 use Rattle.float_cast.specs.declared.Whole.{Whole}
-use Rattle.float_cast.specs.declared.Whole.TheVariants as Whole
 
 -- no signed number of 64 bits has a greater magnitude
 abbrev pub most : ℕ

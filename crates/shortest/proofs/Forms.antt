@@ -14,7 +14,6 @@ use Rattle.types.specs.Kinds.{kind_code, special_code, special_known}
 use Rattle.types.specs.Forms.{integers_written, floats_read, sizes, count_of, allowed_count, allowed_float, listed, known, body_length}
 use Rattle.types.specs.declared.Kind.{Kind}
 use Rattle.types.specs.declared.Kind.TheVariants as K
-use Rattle.types.specs.declared.Special.{Special}
 use Rattle.types.specs.declared.SpecialAnswer.{SpecialAnswer}
 use Rattle.types.proofs.Specials.{special_known_lem, special_small}
 use Rattle.header.specs.Header.{later_bytes, header_bytes, header_kind, header_argument, header_length}

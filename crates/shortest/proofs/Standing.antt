@@ -26,7 +26,6 @@ use Rattle.little.specs.Le.{number_at}
 use Rattle.little.specs.Twos.{twos}
 use Rattle.little.specs.Counts.{shortest_u, shortest_s}
 use Rattle.integer.proofs.Counts.{allowed_bounds}
-use Rattle.float.proofs.Counts.{two}
 use Rattle.dictionary.specs.Wholes.{IsAtom}
 use Rattle.shortest.specs.Meanings.{Bytes, meant_by, meant}
 use Rattle.shortest.specs.Forms.{shortest_header, fewest, shortest}

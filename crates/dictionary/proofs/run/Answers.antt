@@ -1,9 +1,6 @@
 -- `dictionary::run` meets its contract: a turn of the loop is a turn of the definition. Each atom takes a byte at
 -- least, so that the bytes left are the measure.
-use Prim.Native.Nat.{◌-◌}
-use lib.ListN.{length}
-use Rattle.dictionary.specs.Steps.{last_of}
-use Rattle.dictionary.proofs.Running.{Running, run_laws}
+use Rattle.dictionary.proofs.Running.{run_laws}
 use Rattle.dictionary.proofs.run.Goals as goal
 
 pub loop-at-smaller-in-Past : goal.loop-at-smaller-in-Past

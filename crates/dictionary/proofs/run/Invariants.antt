@@ -3,7 +3,7 @@
 use Prim.Native.Nat.{◌-◌}
 use lib.ListN.{length}
 use Rattle.dictionary.specs.Steps.{last_of}
-use Rattle.dictionary.proofs.Running.{Running, run_laws}
+use Rattle.dictionary.proofs.Running.{Running}
 use Rattle.dictionary.proofs.run.Given as goal
 
 abbrev pub invariant-loop-at : goal.invariant-loop-at

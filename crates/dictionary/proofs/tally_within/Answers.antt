@@ -1,10 +1,7 @@
 -- `dictionary::tally_within` meets its contract: a turn of the loop is a turn of the definition. The bytes left are the
 -- measure.
-use Prim.Native.Nat.{◌-◌}
-use lib.ListN.{length}
-use Rattle.dictionary.specs.Steps.{last_of}
 use Rattle.dictionary.proofs.Steps.{step_starts, step_inside}
-use Rattle.dictionary.proofs.Tallying.{Tallying, tally_laws}
+use Rattle.dictionary.proofs.Tallying.{tally_laws}
 use Rattle.dictionary.proofs.tally_within.Goals as goal
 
 pub letters_of_short-letters-requires : goal.letters_of_short-letters-requires

@@ -3,8 +3,7 @@
 use Prim.Native.Nat.{◌-◌}
 use lib.ListN.{length}
 use Rattle.dictionary.specs.Steps.{last_of}
-use Rattle.dictionary.proofs.Steps.{step_starts, step_inside}
-use Rattle.dictionary.proofs.Tallying.{Tallying, tally_laws}
+use Rattle.dictionary.proofs.Tallying.{Tallying}
 use Rattle.dictionary.proofs.tally_within.Given as goal
 
 abbrev pub invariant-loop-at : goal.invariant-loop-at

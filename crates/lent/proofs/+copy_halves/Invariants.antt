@@ -1,5 +1,5 @@
-use Rattle.std.proofs.Common.{length}
 -- `lent::copy_halves` meets its contract: its halves are the whole. The length of the source falls with each call.
+use Rattle.std.proofs.Common.{length}
 use lib.ListN.{length}
 use Rattle.lent.proofs.+copy_halves.Given as goal
 

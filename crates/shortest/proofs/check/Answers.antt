@@ -1,8 +1,5 @@
 -- `shortest::check` meets its contract: a turn of the loop is a turn of the definition. Each atom takes a byte at
 -- least, so that the bytes left are the measure.
-use Prim.Native.Nat.{◌-◌}
-use lib.ListN.{length}
-use Rattle.shortest.proofs.Checking.{Checking}
 use Rattle.shortest.proofs.Checking.{check_laws}
 use Rattle.shortest.proofs.check.Goals as goal
 

@@ -3,7 +3,6 @@
 use Prim.Native.Nat.{◌-◌}
 use lib.ListN.{length}
 use Rattle.shortest.proofs.Checking.{Checking}
-use Rattle.shortest.proofs.Checking.{check_laws}
 use Rattle.shortest.proofs.check.Given as goal
 
 abbrev pub invariant-loop-at : goal.invariant-loop-at
