@@ -9,12 +9,12 @@ use native.Mathlib.Omega.{arith}
 use lib.Dec.{leb}
 use lib.ListN.{length, take, drop, length-drop, take-append-drop}
 use lib.Seq.{length-take-le, take_all, take-append-le, drop-append-le, drop-drop}
-use borrow.Author.Tests.{le-leb, lt-leb, leb-true, leb-false}
+use borrow.Author.Tests.{le-leb, lt-leb, leb-false}
 use Rattle.types.specs.Choice.{pick}
 use Rattle.types.specs.Ways.{exact, up_to}
 use Rattle.types.specs.Counters.{place_in, places_of}
 use Rattle.types.specs.Forms.{known, body_length, charge_of, unknown}
-use Rattle.types.proofs.Counters.{place_within, place_same}
+use Rattle.types.proofs.Counters.{place_same}
 use Rattle.types.specs.declared.Way.{Way}
 use Rattle.types.specs.declared.Way.TheVariants as W
 use Rattle.types.specs.declared.Kind.{Kind}
@@ -38,11 +38,11 @@ use Rattle.types.specs.declared.AtomAnswer.TheVariants as A
 use Rattle.little.specs.Le.{from_le, number_at}
 use Rattle.header.specs.Header.{header_from, header_read, header_kind, header_argument, header_length}
 use Rattle.dictionary.proofs.Fronts.{front, front_grows}
-use Rattle.reader.specs.Strings.{start_of, string_answer, string_mark}
+use Rattle.reader.specs.Strings.{start_of, string_mark}
 use Rattle.reader.proofs.Strings.{start_same}
 use Rattle.reader.proofs.Delivered.{Outcome, whole, cut, cramped, outcome, string_read_lem, string_eof_lem, string_no_room}
 use Rattle.atom.specs.Charges.{budget_after}
-use Rattle.atom.specs.Atoms.{atom_taken, header_taken, bytes_taken, bytes_atom, body_taken, charged, judged, atom_after, atom_from, atom_read}
+use Rattle.atom.specs.Atoms.{atom_taken, bytes_taken, bytes_atom, body_taken, charged, judged, atom_after, atom_from, atom_read}
 use Rattle.atom.specs.Atoms.{first_place, special_nucleus}
 use Rattle.atom.proofs.Numbers.{NumberForm, integers, floats, number_taken, integer_taken_lem, float_taken_lem}
 use Rattle.promises.specs.Placed.{Stands, between, earlier, moved_mark, moved_nucleus, moved}

@@ -2,7 +2,7 @@
 -- writers of values write is the shortest bytes of what was given, and so accepted; and every accepted list is so
 -- written, but for a NaN of 2 bytes. A refusal 3, 4 or 6 is the tally's own.
 use mathlib.Core.Path.{◌≡◌, refl, ◌∙◌, sym, ap, subst}
-use mathlib.Core.Bool.{Bool, true, false, false≢true}
+use mathlib.Core.Bool.{Bool, true, false≢true}
 use mathlib.Core.List.{List, [], ◌∷◌, ◌++◌, append-nil}
 use mathlib.Core.Logic.{⊎_elim}
 use Prim.Native.Nat.{ℕ, ◌-◌, ◌^◌, ◌≤◌, ◌<◌}

@@ -3,7 +3,7 @@
 -- way, lent or copied, from any budget of at least the price, leaving the budget less the price; and the atom's places
 -- are where the bytes stand. Strings and specials rest on `atom.Back.bytes_back` and `atom.Back.special_back`.
 use mathlib.Core.Path.{◌≡◌, refl, ◌∙◌, sym, ap}
-use mathlib.Core.Bool.{true, false, false≢true}
+use mathlib.Core.Bool.{true, false≢true}
 use mathlib.Core.List.{List, [], ◌++◌, append_assoc, append-nil}
 use Prim.Native.Nat.{ℕ, ◌+◌, ◌-◌, ◌/◌, ◌≤◌, ◌<◌, ◌^◌}
 use native.Mathlib.Omega.{arith}
@@ -57,7 +57,6 @@ use Rattle.dictionary.specs.Wholes.{price, places_at}
 use Rattle.types.specs.Kinds.{special_code}
 use Rattle.types.specs.declared.Atom.{Atom}
 use Rattle.types.specs.declared.Special.{Special}
-use Rattle.types.specs.declared.Special.TheVariants as S
 use Rattle.types.specs.declared.Integer.{Integer}
 use Rattle.types.specs.declared.Integer.TheVariants as I
 use Rattle.types.specs.declared.Float.TheVariants as F

@@ -18,9 +18,7 @@ use Rattle.types.specs.declared.Float.TheVariants as F
 use Rattle.types.specs.declared.Refusal.{Refusal}
 use Rattle.types.specs.declared.Refusal.TheVariants as R
 use Rattle.types.specs.declared.AsF32.{AsF32}
-use Rattle.types.specs.declared.AsF32.TheVariants as AsF32
 use Rattle.types.specs.declared.AsF64.{AsF64}
-use Rattle.types.specs.declared.AsF64.TheVariants as AsF64
 use Rattle.binary.specs.Formats.{Layout, single, double, sign_weight, Meaning, finite, infinite, nan, meaning, NotNan}
 use Rattle.binary.specs.Formats.{SameValue}
 use Rattle.binary.specs.Conversions.{Narrowed, kept, lost, narrowed_meaning, narrowed}
@@ -32,7 +30,7 @@ use Rattle.cast.specs.Casts as Casts
 use Rattle.cast.proofs.Exact.{Counted, whole_units}
 use Rattle.float.specs.Values as Values
 use Rattle.promises.specs.Told.{Told, told, meaning_told, value_told, told_as_f32, told_as_f64, told_as_float}
-use Rattle.promises.specs.Casts.{whole_told, WholeFloatRows, InSingle, NarrowedRows}
+use Rattle.promises.specs.Casts.{whole_told, WholeFloatRows, NarrowedRows}
 use Rattle.promises.specs.Floats.{NarrowingRows}
 
 -- ---- an F64 as an F32

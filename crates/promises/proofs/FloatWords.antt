@@ -5,10 +5,8 @@ use mathlib.Core.Bool.{Bool, true, false}
 use mathlib.Core.List.{List}
 use Prim.Native.Nat.{ℕ, ◌+◌, ◌%◌, ◌^◌, ◌<◌}
 use native.Mathlib.Omega.{arith}
-use borrow.Author.Tests.{eq-eqb, ne_eqb}
 use lib.Dec.{leb}
 use lib.ListN.{length, get_or}
-use lib.Ieee as Ieee
 use lib.Ieee.{binary32, binary64, of_bits}
 use Rattle.types.specs.Choice.{pick}
 use Rattle.types.specs.Kinds.{kind_code, special_from, special_known}
@@ -32,7 +30,6 @@ use Rattle.types.specs.declared.BudgetAnswer.{BudgetAnswer}
 use Rattle.types.specs.declared.BudgetAnswer.TheVariants as BA
 use Rattle.types.specs.declared.IntegerAnswer.{IntegerAnswer}
 use Rattle.types.specs.declared.IntegerAnswer.TheVariants as IA
-use Rattle.types.specs.declared.FloatAnswer.{FloatAnswer}
 use Rattle.types.specs.declared.FloatAnswer.TheVariants as FA
 use Rattle.types.specs.declared.BytesAnswer.{BytesAnswer}
 use Rattle.types.specs.declared.BytesAnswer.TheVariants as B
@@ -45,7 +42,7 @@ use Rattle.reader.specs.Strings.{string_answer}
 use Rattle.little.specs.Le.{number_at}
 use Rattle.little.proofs.At.{number_lt}
 use Rattle.integer.specs.Integers.{integer_body}
-use Rattle.binary.specs.Formats.{half, single, double, meaning}
+use Rattle.binary.specs.Formats.{half, single, meaning}
 use Rattle.binary.specs.Conversions.{widened}
 use Rattle.binary.specs.Floats.{plain}
 use Rattle.binary.proofs.Values.{of_bits_means}

@@ -10,7 +10,6 @@ use mir.Val.{bytes}
 use borrow.Author.Tests.{le-leb, lt-leb}
 use Rattle.types.specs.Choice.{pick}
 use Rattle.types.specs.Values.{value, wide_of}
-use Rattle.types.specs.declared.Integer.{Integer}
 use Rattle.types.specs.declared.Refusal.{Refusal}
 use Rattle.types.specs.declared.Refusal.TheVariants as R
 use Rattle.types.specs.declared.AsI8.TheVariants as AsI8
@@ -24,7 +23,6 @@ use Rattle.types.specs.declared.AsU64.TheVariants as AsU64
 use Rattle.types.specs.declared.AsWide.TheVariants as AsWide
 use Rattle.cast.specs.Variants.{width, in_range}
 use Rattle.cast.specs.Casts.{cast}
-use Rattle.cast.specs.Froms.{from}
 use Rattle.cast.proofs.Made.{cast-from}
 use Rattle.promises.specs.Told.{Told, told, told_as_i8, told_as_i16, told_as_i32, told_as_i64, told_as_u8, told_as_u16}
 use Rattle.promises.specs.Told.{told_as_u32, told_as_u64, told_as_wide}

@@ -16,7 +16,6 @@ use Rattle.types.specs.declared.Refusal.TheVariants as R
 use Rattle.types.specs.declared.Float.{Float}
 use Rattle.types.specs.declared.Float.TheVariants as F
 use Rattle.types.specs.declared.AsInteger.{AsInteger}
-use Rattle.types.specs.declared.AsInteger.TheVariants as AsInteger
 use Rattle.binary.specs.Formats.{Meaning, finite}
 use Rattle.cast.specs.Froms.{from}
 use Rattle.float.specs.Values.{float_means, smallness}

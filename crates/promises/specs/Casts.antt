@@ -9,7 +9,7 @@ use Rattle.types.specs.Values.{value, wide_of}
 use Rattle.types.specs.declared.Integer.{Integer}
 use Rattle.types.specs.declared.Float.{Float}
 use Rattle.types.specs.declared.Float.TheVariants as F
-use Rattle.binary.specs.Formats.{single, sign_weight, Meaning, finite, infinite, nan, meaning, NotNan}
+use Rattle.binary.specs.Formats.{single, sign_weight, finite, infinite, nan, meaning, NotNan}
 use Rattle.binary.specs.Floats.{float_meaning}
 use Rattle.cast.specs.Variants.{sign, width, in_range, equal_integers}
 use Rattle.cast.specs.Variants as Variants
