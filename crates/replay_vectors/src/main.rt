@@ -186,7 +186,7 @@ fn report_topics(
 
 // Replays the vectors on standard input, at most 524,288 bytes, and writes the counts of each topic.
 fn main(rt: HostRuntime) -> io::Result<()> {
-    let mut text = [0u8; 524288];
+    let mut text = input::buffer::<524288>();
     let count = input::read_full(&mut rt.stdin(), &mut text)?;
     let mut bytes = [0u8; 1024];
     let mut scratch = [0u8; 1024];

@@ -16,7 +16,7 @@ fn run<R: Read, W: Write>(input: &mut R, output: &mut W) -> io::Result<()>
     ensures { OnOk result (IfSome (R.remaining input.old) (λ file.
         Appends (W.contents output.old) (W.contents output.new) (report_text (report_of file)))) }
 {
-    let mut file = [0u8; 65537];
+    let mut file = input::buffer::<65537>();
     let count = input::read_full(input, &mut file)?;
     let mut text = [0u8; 79];
     let length = report_text::report_into(&file[..count], &mut text);

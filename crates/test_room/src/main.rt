@@ -130,7 +130,7 @@ fn ask(
 }
 
 fn main(rt: HostRuntime) -> io::Result<()> {
-    let mut text = [0u8; 65536];
+    let mut text = input::buffer::<65536>();
     let count = input::read_full(&mut rt.stdin(), &mut text)?;
     let mut buffer = [0u8; 64];
     let mut other = [0u8; 64];
