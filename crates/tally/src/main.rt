@@ -12,15 +12,15 @@ use std::io::{self, Read, Write};
 
 // Reads a file and writes its text. There is room for a byte more than a file may have, so that a longer one is seen
 // to be too long.
-fn run<R: Read, W: Write>(input: &mut R, output: &mut W) -> io::Result<()>
-    ensures { OnOk result (IfSome (R.remaining input.old) (λ file.
-        Appends (W.contents output.old) (W.contents output.new) (report_text (report_of file)))) }
+fn run<R: Read, W: Write>(from: &mut R, to: &mut W) -> io::Result<()>
+    ensures { OnOk result (IfSome (R.remaining from.old) (λ file.
+        Appends (W.contents to.old) (W.contents to.new) (report_text (report_of file)))) }
 {
     let mut file = input::buffer::<65537>();
-    let count = input::read_full(input, &mut file)?;
+    let count = input::read_full(from, &mut file)?;
     let mut text = [0u8; 79];
     let length = report_text::report_into(&file[..count], &mut text);
-    output.write_all(&text[..length])
+    to.write_all(&text[..length])
 }
 
 fn main(rt: HostRuntime) -> io::Result<()> {

@@ -7,7 +7,7 @@ use lib.Dec.{eqb}
 use lib.ListN.{length}
 use borrow.Author.Rules.{rules}
 use Rattle.types.specs.declared.Kind.TheVariants as K
-use Rattle.slice_reader.proofs.Leaves.{byte_leaves}
+use Rattle.test_slice_reader.proofs.Leaves.{byte_leaves}
 use Rattle.test_slice_reader.specs.declared.Held.{Held}
 use Rattle.test_slice_reader.specs.Held.{left_by, held_over}
 
