@@ -1,6 +1,5 @@
--- One result for each contract of `slice_reader` over plain slices, of a part its bytes and where they lie. Of the
--- functions over the struct that holds a reference no plain reading of the contract is generated: docs/PROMISES.md,
--- "Exceptions".
+-- One result for each contract of `slice_reader` over plain slices, of a part its bytes and where they lie. Those of the
+-- functions over the struct that holds a reference stand beside the crate: docs/PROMISES.md, "Exceptions".
 use Rattle.promises.proofs.One.{One, OnePart}
 use Rattle.slice_reader.specs.contracts.atom_at_start as atom-at-start
 use Rattle.slice_reader.proofs.atom_at_start.Reads as atom-at-start-reads

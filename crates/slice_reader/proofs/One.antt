@@ -38,8 +38,6 @@ One e Post Same =
     (κs : Lfts e.signature.lifetimes) (a : ArgsD e.signature κs) (r₁ r₂ : ResD e.signature κs) (s₁ s₂ : AtExit e κs) →
     Post κs a r₁ s₁ → Post κs a r₂ s₂ → Same κs r₁ r₂
 
--- of a read: the same answer, beside a reader of the same bytes at the same place
-
 pub from_one : One from.ended from_reads.Post (λ κs r₁ r₂. r₁.«data» ≡ r₂.«data»)
 from_one κs a r₁ r₂ s₁ s₂ p q = p ∙ sym q
 
@@ -52,6 +50,7 @@ len_one κs a r₁ r₂ s₁ s₂ p q = p ∙ sym q
 pub is_empty_one : One is_empty.ended is_empty_reads.Post (λ κs r₁ r₂. r₁ ≡ r₂)
 is_empty_one κs a r₁ r₂ s₁ s₂ p q = p ∙ sym q
 
+-- of a read: the same answer, beside a reader of the same bytes at the same place
 pub read_integer_one : One read_integer.ended read_integer_reads.Post
     (λ κs r₁ r₂. (r₁.answer ≡ r₂.answer) ×
     ((r₁.reader.«data».now ≡ r₂.reader.«data».now) × (r₁.reader.«data».ref_ptr ≡ r₂.reader.«data».ref_ptr)))

@@ -1,15 +1,18 @@
 // The reader that holds the slice still to be read, over the finished core. Document 01, "Two ways of reading" and
 // "Port order and changes of shape", and `SliceReader` of reader.rs. It reads filled: a number byte past the end reads
-// as zero, and only a string can run out. What is for whom: - `SliceReader` and its functions are the original's
-// reader, for a caller that holds one and goes on with it. An answer that carries the reader on is a struct with the
-// answer beside the reader, since an enum can't hold a reference. Who calls them has a reader in a local, and so a
-// proof by hand: the steps of it are `proofs/Holding.antt`, and `held_over` of `test_slice_reader` is such a caller.
-// Each function is thin: it takes the reader apart and calls what stands on the plain slice. - `left_from`, and of each
-// read the one at a slice's start and what it leaves (`integer_at_start`, `left_by_integer`), do the work. They are for
-// the functions over the reader, and for a caller that carries the slice itself. - The six functions at the end,
-// `len_of` to `rest_after_atom`, make a reader of a slice, let it do one thing and hand back what is plain of it. They
-// are for a caller that wants the reader's own word without a proof by hand: the replay, whose loop over a sequence of
-// reads goes by them, so that the reader's functions are held to the original's.
+// as zero, and only a string can run out. What is for whom:
+//
+// `SliceReader` and its functions are the original's reader, for a caller that holds one and goes on with it, as
+// `held_over` of `test_slice_reader` does. An answer that carries the reader on is a struct with the answer beside the
+// reader, since an enum can't hold a reference. Each function is thin: it takes the reader apart and calls what stands
+// on the plain slice.
+//
+// `left_from`, and of each read the one at a slice's start and what it leaves (`integer_at_start`, `left_by_integer`),
+// do the work. They are for the functions over the reader, and for a caller that carries the slice itself.
+//
+// The six functions at the end, `len_of` to `rest_after_atom`, make a reader of a slice, let it do one thing and hand
+// back what is plain of it. They are for a caller that carries the slice and wants the reader's own word: the replay,
+// whose loop over a sequence of reads goes by them, so that the reader's functions are held to the original's.
 #![tactic(auto)]
 
 ghost use Rattle.std.specs.Prelude.{◌≡◌, eqb, length};
