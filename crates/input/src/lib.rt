@@ -1,19 +1,11 @@
 // Reads what a program is given, to the end or as far as a buffer goes.
 #![tactic(auto)]
 
-ghost use Rattle.std.specs.Prelude.{◌≡◌, ◌<◌, IfOk, length, take};
+ghost use Rattle.std.specs.Prelude.{◌<◌, IfOk, length, take};
 ghost use Rattle.std.specs.Io.{ReadsAtMost};
 ghost use Rattle.std.specs.Io.KnownBytes.{Consumes, IsAtEnd};
 
 use std::io::{Read, Result};
-
-// So many zeros, to read into. The `ensures` says no more than their number, so that a caller's proof never spells
-// them out.
-pub fn buffer<const N: usize>() -> [u8; N]
-    ensures { N ≡ length result }
-{
-    [0; N]
-}
 
 // Fills a buffer, and answers how many bytes were read: fewer than it holds only where the input has ended.
 pub fn read_full<R: Read>(input: &mut R, buffer: &mut [u8]) -> Result<usize>

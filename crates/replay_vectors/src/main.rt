@@ -184,9 +184,17 @@ fn report_topics(
     Ok(())
 }
 
+// So many zeros. That the number is a parameter, and the `ensures` says no more than the length, keeps the proofs from
+// spelling them out.
+fn zeros<const N: usize>() -> [u8; N]
+    ensures { N ≡ length result }
+{
+    [0; N]
+}
+
 // Replays the vectors on standard input, at most 524,288 bytes, and writes the counts of each topic.
 fn main(rt: HostRuntime) -> io::Result<()> {
-    let mut text = input::buffer::<524288>();
+    let mut text = zeros::<524288>();
     let count = input::read_full(&mut rt.stdin(), &mut text)?;
     let mut bytes = [0u8; 1024];
     let mut scratch = [0u8; 1024];

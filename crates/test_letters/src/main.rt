@@ -158,7 +158,7 @@ fn run_lines(out: &mut impl Write, text: &[u8]) -> io::Result<()> {
 // Standard input has texts with their marks as parts of the letters, and the same after them: of as many letters where
 // all marks are from U+0300 to U+036F, as those of Vietnamese and French are, and those of Japanese (U+3099) are not.
 fn run_texts(out: &mut impl Write, input: &mut impl Read) -> io::Result<()> {
-    let mut text = input::buffer::<4096>();
+    let mut text = [0; 4096];
     let count = input::read_full(input, &mut text)?;
     run_lines(out, &text[..count])
 }

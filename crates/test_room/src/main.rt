@@ -4,6 +4,8 @@
 // that the program is held to were worked out from document 01's text apart from it, not taken from what it writes.
 #![tactic(auto)]
 
+ghost use Rattle.std.specs.Prelude.{◌≡◌, length};
+
 use replay_wire::{Cursor, Reply};
 use std::io::{self, Write};
 
@@ -129,8 +131,15 @@ fn ask(
     Ok(())
 }
 
+// Room for the requests. The `ensures` says no more than the length, so that no proof spells the zeros out.
+fn text_buffer() -> [u8; 65536]
+    ensures { 65536 ≡ length result }
+{
+    [0; 65536]
+}
+
 fn main(rt: HostRuntime) -> io::Result<()> {
-    let mut text = input::buffer::<65536>();
+    let mut text = text_buffer();
     let count = input::read_full(&mut rt.stdin(), &mut text)?;
     let mut buffer = [0u8; 64];
     let mut other = [0u8; 64];
