@@ -8,6 +8,13 @@ unfolding held_over
 returns c =
     let one = c.read_integer-one.ensures in
     let two = c.read_integer-two.ensures in
-    simp
-    (c.len-before.ensures, c.len-after.ensures, c.is_empty-empty.ensures, two.1.0, two.0, one.1.0, one.0,
-    c.from-reader.ensures) (refl)
+    simp (
+      c.len-before.ensures,
+      c.len-after.ensures,
+      c.is_empty-empty.ensures,
+      two.1.0,
+      two.0,
+      one.1.0,
+      one.0,
+      c.from-reader.ensures,
+    ) (refl)
