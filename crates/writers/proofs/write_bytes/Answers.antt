@@ -3,4 +3,4 @@ use Rattle.writers.proofs.Others.{string_ends}
 use Rattle.writers.proofs.write_bytes.Goals as goal
 
 pub returns-clause-out_after : goal.returns-clause-out_after
-returns-clause-out_after c = search string_ends
+returns-clause-out_after c = search string_ends fits 300

@@ -3,13 +3,13 @@ use Rattle.writers.proofs.Words.{word_ends}
 use Rattle.writers.proofs.write_i128.Goals as goal
 
 pub returns-then-low_word_holds-clause-value : goal.returns-then-low_word_holds-clause-value
-returns-then-low_word_holds-clause-value c = search word_ends
+returns-then-low_word_holds-clause-value c = search word_ends fits 300
 
 pub returns-then-low_word_holds-clause-out_after : goal.returns-then-low_word_holds-clause-out_after
-returns-then-low_word_holds-clause-out_after c = search word_ends
+returns-then-low_word_holds-clause-out_after c = search word_ends fits 300
 
 pub returns-clause-value : goal.returns-clause-value
-returns-clause-value c = search word_ends
+returns-clause-value c = search word_ends fits 300
 
 pub returns-clause-out_after : goal.returns-clause-out_after
-returns-clause-out_after c = search word_ends
+returns-clause-out_after c = search word_ends fits 300

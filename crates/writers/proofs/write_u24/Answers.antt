@@ -3,19 +3,19 @@ use Rattle.writers.proofs.Ends.{unsigned_ends}
 use Rattle.writers.proofs.write_u24.Goals as goal
 
 pub returns-then-value-ge16777216-clause-value : goal.returns-then-value-ge16777216-clause-value
-returns-then-value-ge16777216-clause-value c = search unsigned_ends
+returns-then-value-ge16777216-clause-value c = search unsigned_ends fits 300
 
 pub returns-then-value-ge16777216-clause-out_after : goal.returns-then-value-ge16777216-clause-out_after
-returns-then-value-ge16777216-clause-out_after c = search unsigned_ends
+returns-then-value-ge16777216-clause-out_after c = search unsigned_ends fits 300
 
 pub returns-then-value-lt65536-clause-value : goal.returns-then-value-lt65536-clause-value
-returns-then-value-lt65536-clause-value c = search unsigned_ends
+returns-then-value-lt65536-clause-value c = search unsigned_ends fits 300
 
 pub returns-then-value-lt65536-clause-out_after : goal.returns-then-value-lt65536-clause-out_after
-returns-then-value-lt65536-clause-out_after c = search unsigned_ends
+returns-then-value-lt65536-clause-out_after c = search unsigned_ends fits 300
 
 pub returns-clause-value : goal.returns-clause-value
-returns-clause-value c = search unsigned_ends
+returns-clause-value c = search unsigned_ends fits 300
 
 pub returns-clause-out_after : goal.returns-clause-out_after
-returns-clause-out_after c = search unsigned_ends
+returns-clause-out_after c = search unsigned_ends fits 300
