@@ -69,7 +69,8 @@ judged kind arg next budget body =
 
 -- a number's body, of an allowed count: "4 Eof: end of slice; charged if a body was being read"
 abbrev pub integer_atom : Kind → ℕ → Place → Place → Budget → IntegerAnswer → AtomAnswer
-integer_atom kind arg first next rest (IA.Read place value) = atom_taken kind arg first next rest place (N.Integer value)
+integer_atom kind arg first next rest (IA.Read place value) =
+    atom_taken kind arg first next rest place (N.Integer value)
 integer_atom kind arg first next rest (IA.Refused place r) = A.Refused place rest r
 
 abbrev pub float_atom : ℕ → Place → Place → Budget → FloatAnswer → AtomAnswer

@@ -61,4 +61,5 @@ pub data Spoilt : List ℕ → Refusal → Type 0 where
       Spoilt bytes (unknown (header_kind bytes) (header_argument bytes))
   cut_body : {bytes : List ℕ} → header_length bytes ≤ length bytes →
       known (header_kind bytes) (header_argument bytes) ≡ true →
-      length bytes < header_length bytes + body_length (header_kind bytes) (header_argument bytes) → Spoilt bytes R.Eof
+      length bytes < header_length bytes + body_length (header_kind bytes) (header_argument bytes) →
+      Spoilt bytes R.Eof

@@ -16,7 +16,8 @@ signature = 0x506F7400
 
 -- "four bytes, big endian": the number of the bytes from their place on; past their end a byte reads as zero
 unfoldable pub big_endian : List ℕ → ℕ
-big_endian bytes = get_or bytes 0 0 * 0x1000000 + get_or bytes 1 0 * 0x10000 + get_or bytes 2 0 * 0x100 + get_or bytes 3 0
+big_endian bytes =
+    get_or bytes 0 0 * 0x1000000 + get_or bytes 1 0 * 0x10000 + get_or bytes 2 0 * 0x100 + get_or bytes 3 0
 
 -- whether each of the lowest `bits` bits that the mask has is in the word
 unfoldable pub every_bit : ℕ → ℕ → ℕ → Bool

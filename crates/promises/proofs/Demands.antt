@@ -251,7 +251,8 @@ pub record Priced (s : List ℕ) (atoms : List (List ℕ)) : Type 0 where
   pub afforded : (budget : ℕ) → total price atoms ≤ budget →
       told_ran (run_all s (record { 0 = budget }))
       ≡ told 0
-      (pos (length s) ∷ pos (budget - total price atoms) ∷ pos (length atoms) ∷ places_told (last_places atoms) [])
+      (pos (length s) ∷ pos (budget - total price atoms) ∷ pos (length atoms) ∷
+      places_told (last_places atoms) [])
   -- a smaller one is refused with 5 at the first atom whose running sum passes it: past its header, with the budget
   -- less the charges of the atoms before it, their number, the places of the last of them, and where it starts
   pub refused_at : (budget : ℕ) → budget < total price atoms →

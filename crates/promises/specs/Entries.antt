@@ -172,11 +172,13 @@ pub record RawRows (way : Way) (s : List ℕ) (place : ℕ) (buffer : List ℕ) 
   pub taken :
       There way s (start_of s place + length buffer) →
       (told_raw (raw_exactly way s place buffer)
-      ≡ told 0 (pos (place_in (length s) (start_of s place + length buffer)) ∷ pos (raw_count s place buffer) ∷ []))
+      ≡ told 0
+      (pos (place_in (length s) (start_of s place + length buffer)) ∷ pos (raw_count s place buffer) ∷ []))
       × (raw_exactly_buffer way s place buffer ≡ copied s (start_of s place) (raw_count s place buffer) buffer)
   pub any :
       (told_raw (raw_answer s place buffer)
-      ≡ told 0 (pos (place_in (length s) (start_of s place + length buffer)) ∷ pos (raw_count s place buffer) ∷ []))
+      ≡ told 0
+      (pos (place_in (length s) (start_of s place + length buffer)) ∷ pos (raw_count s place buffer) ∷ []))
       × (raw_buffer s place buffer ≡ copied s (start_of s place) (raw_count s place buffer) buffer)
 
 -- a writer of those bytes into a buffer: "9: output shorter than the whole write"

@@ -105,8 +105,8 @@ pub data Row (way : Way) (s : List ℕ) (place : ℕ) (budget : Budget) (scratch
         known kind arg ≡ true →
         can_end way kind ≡ true →
         length s < next.0 + body_length kind arg →
-        Row way s place budget scratch (H.Read next kind arg) (refusal 4 (end_of s) (less budget (charge_of kind arg)) [])
-        scratch
+        Row way s place budget scratch (H.Read next kind arg)
+        (refusal 4 (end_of s) (less budget (charge_of kind arg)) []) scratch
     -- "9 NoRoom: scratch shorter than the string: past header, charged"
     nine : {next : Place} {arg : ℕ} →
         arg ≤ budget.0 →

@@ -18,7 +18,8 @@ pub data RunRow (s : List ℕ) (budget : ℕ) : Told → Type 0 where
       total price atoms ≤ budget →
       RunRow s budget
       (told 0
-      (pos (length s) ∷ pos (budget - total price atoms) ∷ pos (length atoms) ∷ places_told (last_places atoms) []))
+      (pos (length s) ∷ pos (budget - total price atoms) ∷ pos (length atoms) ∷
+      places_told (last_places atoms) []))
   -- whole, known atoms before one that is refused: its own refusal, with the place and the charge of that, and behind
   -- the number of atoms the places of the last of them, and where the refused one starts
   stopped : {front rest : List ℕ} {atoms : List (List ℕ)} {why : Refusal} {past charge : ℕ} →

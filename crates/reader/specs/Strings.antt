@@ -42,7 +42,8 @@ string_read s place n m = B.Read (record { 0 = start_of s place + n }) m
 
 -- a string lent
 unfoldable pub lent_string : List ℕ → ℕ → ℕ → BytesAnswer
-lent_string s place n = pick (runs_out s place n) (string_eof s) (string_read s place n (lent_mark (start_of s place) n))
+lent_string s place n =
+    pick (runs_out s place n) (string_eof s) (string_read s place n (lent_mark (start_of s place) n))
 
 -- a string copied: "then end of input, then scratch room"; "9 NoRoom: scratch shorter than the string", where it starts
 unfoldable pub copied_string : List ℕ → ℕ → ℕ → List ℕ → BytesAnswer

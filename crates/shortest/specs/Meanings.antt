@@ -53,7 +53,8 @@ abbrev pub meant_by : Kind → ℕ → List ℕ → Meant
 meant_by K.Special arg body = special (special_known (special_from arg))
 meant_by K.Int arg body = int (twos (count_of arg) (from_le body))
 meant_by K.UInt arg body = uint (from_le body)
-meant_by K.Float arg body = float_meant (count_of arg) (from_le body) (meaning (layout_at (count_of arg)) (from_le body))
+meant_by K.Float arg body =
+    float_meant (count_of arg) (from_le body) (meaning (layout_at (count_of arg)) (from_le body))
 meant_by K.Sequence arg body = sequence arg
 meant_by K.Map arg body = map arg
 meant_by K.Symbol arg body = symbol arg
