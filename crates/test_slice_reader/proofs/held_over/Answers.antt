@@ -1,5 +1,4 @@
 -- `test_slice_reader::held_over` meets its contract: each read answers of what the one before it leaves.
-use mathlib.Core.Path.{refl}
 use Rattle.test_slice_reader.specs.Held.{held_over}
 use Rattle.test_slice_reader.proofs.held_over.Goals as goal
 
@@ -17,4 +16,4 @@ returns c =
       one.1.0,
       one.0,
       c.from-reader.ensures,
-    ) (refl)
+    )
