@@ -1,5 +1,6 @@
 -- What the two ways of reading an atom differ in: where exact reading takes it, filled reading gives the same atom,
 -- place and budget; else the source ends within it. And where exact reading takes an atom, it takes a byte at least.
+use Rattle.std.specs.Prelude.{Result, Ok, Err}
 use mathlib.Core.Path.{◌≡◌, refl, ap}
 use mathlib.Core.Bool.{Bool, true, false, false≢true}
 use mathlib.Core.List.{List}
@@ -8,6 +9,7 @@ use native.Mathlib.Omega.{arith}
 use borrow.Author.Tests.{leb-false}
 use lib.Dec.{leb}
 use lib.ListN.{length, drop}
+use Rattle.types.specs.Answers.{AtomAnswer, HeaderAnswer}
 use Rattle.types.specs.Choice.{pick}
 use Rattle.types.specs.Ways.{exact}
 use Rattle.types.specs.Forms.{known, body_length, charge_of, unknown}
@@ -20,12 +22,6 @@ use Rattle.types.specs.declared.Budget.{Budget}
 use Rattle.types.specs.declared.Atom.{Atom}
 use Rattle.types.specs.declared.Refusal.{Refusal}
 use Rattle.types.specs.declared.Refusal.TheVariants as R
-use Rattle.types.specs.declared.HeaderAnswer.{HeaderAnswer}
-use Rattle.types.specs.declared.HeaderAnswer.TheVariants as H
-use Rattle.types.specs.declared.BudgetAnswer.{BudgetAnswer}
-use Rattle.types.specs.declared.BudgetAnswer.TheVariants as BA
-use Rattle.types.specs.declared.AtomAnswer.{AtomAnswer}
-use Rattle.types.specs.declared.AtomAnswer.TheVariants as A
 use Rattle.types.proofs.Ways.{Differ, same, cut, up_to_differ, differ_reads}
 use Rattle.header.specs.Header.{header_from, header_kind, header_argument, header_length}
 use Rattle.little.specs.Le.{number_at}
@@ -39,18 +35,18 @@ use Rattle.atom.proofs.Numbers.{NumberForm, integers, floats, number_taken, inte
 use Rattle.atom.proofs.Forward.{atom_place, after_on}
 
 -- what is charged, and known, alike under both ways: the rest makes the difference
-judged_differ : (Eof : AtomAnswer → Type 0) (length end : ℕ) (next : Place) (budget : Budget) (a : BudgetAnswer)
+judged_differ : (Eof : AtomAnswer → Type 0) (length end : ℕ) (next : Place) (budget : Budget) (a : Result Budget Refusal)
     (k : Bool) (r : Refusal) (f g : Budget → AtomAnswer) →
     ((rest : Budget) → Differ Eof length end (f rest) (g rest)) →
-    Differ Eof length end (charged next budget a (λ rest. pick k (f rest) (A.Refused next rest r)))
-    (charged next budget a (λ rest. pick k (g rest) (A.Refused next rest r)))
-judged_differ Eof length end next budget (BA.Left rest) true r f g h = h rest
-judged_differ Eof length end next budget (BA.Left rest) false r f g h = same refl
-judged_differ Eof length end next budget (BA.Refused q) k r f g h = same refl
+    Differ Eof length end (charged next budget a (λ rest. pick k (f rest) (Err (next, rest, r))))
+    (charged next budget a (λ rest. pick k (g rest) (Err (next, rest, r))))
+judged_differ Eof length end next budget (Ok rest) true r f g h = h rest
+judged_differ Eof length end next budget (Ok rest) false r f g h = same refl
+judged_differ Eof length end next budget (Err q) k r f g h = same refl
 
 -- "4 Eof: end of slice", whatever the budget after it
 abbrev pub Ended : List ℕ → AtomAnswer → Type 0
-Ended s answer = (left : Budget) × (answer ≡ A.Refused (record { 0 = length s }) left R.Eof)
+Ended s answer = (left : Budget) × (answer ≡ Err (record { 0 = length s }, left, R.Eof))
 
 module _ (s : List ℕ) (budget : Budget) (scratch : List ℕ) where
   -- what follows a header: a number is taken up to its end, and nothing else differs
@@ -66,7 +62,7 @@ module _ (s : List ℕ) (budget : Budget) (scratch : List ℕ) where
           λ p. atom_taken n.kind arg first next rest (record { 0 = p }) (n.nucleus count (number_at count s next.0))
           in
           rw (f, g)
-          (up_to_differ (length s) (next.0 + count) taken (A.Refused (record { 0 = length s }) rest R.Eof) (Ended s)
+          (up_to_differ (length s) (next.0 + count) taken (Err (record { 0 = length s }, rest, R.Eof)) (Ended s)
           (rest, refl))
 
       taken_differ : (kind : Kind) →
@@ -103,9 +99,9 @@ module _ (s : List ℕ) (budget : Budget) (scratch : List ℕ) where
   from_differ : (t : Bool) (first : Place) (end : ℕ) (kind : Kind) (arg : ℕ) → leb end (length s) ≡ t →
       Differ (Ended s) (length s) (end + body_length kind arg)
       (atom_from W.ExactLent s first budget scratch
-      (pick t (H.Read (record { 0 = end }) kind arg) (H.Refused (record { 0 = length s }) R.Eof)))
+      (pick t (Ok (record { 0 = end }, kind, arg)) (Err (record { 0 = length s }, R.Eof))))
       (atom_from W.Filled s first budget scratch
-      (pick t (H.Read (record { 0 = end }) kind arg) (H.Read (record { 0 = length s }) kind arg)))
+      (pick t (Ok (record { 0 = end }, kind, arg)) (Ok (record { 0 = length s }, kind, arg))))
   from_differ true first end kind arg h = after_differ arg first (record { 0 = end }) kind
   from_differ false first end kind arg h =
       let past = leb-false end (length s) h in cut (budget, refl) (omega arith)
@@ -125,15 +121,16 @@ atom_differ s place budget scratch =
 
 -- WHERE EXACT READING SUCCEEDS, FILLED READING GIVES THE SAME atom, place and budget, strings lent
 pub exact_then_filled : (s : List ℕ) (place : ℕ) (budget : Budget) (scratch : List ℕ) (p : Place) (b : Budget)
-    (x : Atom) → atom_read W.ExactLent s place budget scratch ≡ A.Read p b x →
-    atom_read W.Filled s place budget scratch ≡ A.Read p b x
+    (x : Atom) → atom_read W.ExactLent s place budget scratch ≡ Ok (p, b, x) →
+    atom_read W.Filled s place budget scratch ≡ Ok (p, b, x)
 exact_then_filled s place budget scratch p b x =
-    differ_reads (Ended s) (atom_differ s place budget scratch) (A.Read p b x) (λ ended. false≢true cc)
+    differ_reads (Ended s) (atom_differ s place budget scratch) (Ok (p, b, x)) (λ ended. false≢true cc)
 
 -- an exact header takes a byte at least
 header_more : (at n : ℕ) (end : Place) (k : Kind) (a : ℕ) (t e : Bool) → 1 ≤ n → e ≡ true → (p : Place) (kind : Kind)
     (arg : ℕ) →
-    pick t (H.Read (record { 0 = at + n }) k a) (pick e (H.Refused end R.Eof) (H.Read end k a)) ≡ H.Read p kind arg →
+    pick {X = HeaderAnswer} t (Ok (record { 0 = at + n }, k, a)) (pick e (Err (end, R.Eof)) (Ok (end, k, a)))
+    ≡ Ok (p, kind, arg) →
     at < p.0
 header_more at n end k a true e h x p kind arg f = let q : at + n ≡ p.0 = ap header_place f in omega arith
 header_more at n end k a false true h x p kind arg f = absurd (false≢true cc)
@@ -141,19 +138,19 @@ header_more at n end k a false false h x p kind arg f = absurd (false≢true x)
 
 from_more : (way : Way) (s : List ℕ) (first : Place) (at : ℕ) (budget : Budget) (scratch : List ℕ)
     (h : HeaderAnswer) (p : Place) (b : Budget) (x : Atom) →
-    ((q : Place) (k : Kind) (n : ℕ) → h ≡ H.Read q k n → at < q.0) →
-    header_place h ≤ length s → atom_from way s first budget scratch h ≡ A.Read p b x → at < p.0
-from_more way s first at budget scratch (H.Read next kind arg) p b x f l e =
+    ((q : Place) (k : Kind) (n : ℕ) → h ≡ Ok (q, k, n) → at < q.0) →
+    header_place h ≤ length s → atom_from way s first budget scratch h ≡ Ok (p, b, x) → at < p.0
+from_more way s first at budget scratch (Ok (next, kind, arg)) p b x f l e =
     let w = after_on way s arg first next budget scratch l kind in
     let up = f next kind arg refl in
     let on = w.not_back in
     let q = ap atom_place e in
     omega arith
-from_more way s first at budget scratch (H.Refused q r) p b x f l e = absurd (false≢true cc)
+from_more way s first at budget scratch (Err (q, r)) p b x f l e = absurd (false≢true cc)
 
 -- AN EXACT READ TAKES AT LEAST ONE BYTE
 pub exact_more : (way : Way) → exact way ≡ true → (s : List ℕ) (place : ℕ) (budget : Budget) (scratch : List ℕ)
-    (p : Place) (b : Budget) (x : Atom) → atom_read way s place budget scratch ≡ A.Read p b x → start_of s place < p.0
+    (p : Place) (b : Budget) (x : Atom) → atom_read way s place budget scratch ≡ Ok (p, b, x) → start_of s place < p.0
 unfolding atom_read header_from
 exact_more way e s place budget scratch p b x h =
     let at : ℕ = start_of s place in

@@ -1,10 +1,12 @@
 -- What was written reads back: the header decides, and what follows it is the body's own round trip.
+use Rattle.std.specs.Prelude.{Result, Ok}
 use mathlib.Core.Path.{◌≡◌, refl, ◌∙◌, sym, ap}
 use mathlib.Core.List.{List, ◌++◌, append_assoc}
 use Prim.Native.Nat.{ℕ, ◌+◌, ◌-◌, ◌≤◌, ◌<◌, ◌^◌}
 use native.Mathlib.Omega.{arith}
 use lib.ListN.{length, length-append}
 use borrow.Author.Tests.{le-ltb}
+use Rattle.types.specs.declared.Refusal.{Refusal}
 use Rattle.types.specs.Counters.{place_in}
 use Rattle.types.specs.Kinds.{special_code, special_known}
 use Rattle.types.proofs.Counters.{place_same}
@@ -13,11 +15,9 @@ use Rattle.types.specs.declared.Way.{Way}
 use Rattle.types.specs.declared.Kind.{Kind}
 use Rattle.types.specs.declared.Kind.TheVariants as K
 use Rattle.types.specs.declared.Special.{Special}
-use Rattle.types.specs.declared.SpecialAnswer.{SpecialAnswer}
 use Rattle.types.specs.declared.Place.{Place}
 use Rattle.types.specs.declared.Budget.{Budget}
 use Rattle.types.specs.declared.Nucleus.TheVariants as N
-use Rattle.types.specs.declared.BudgetAnswer.TheVariants as BA
 use Rattle.header.specs.Header.{header_bytes, header_from}
 use Rattle.header.proofs.RoundTrip.{header_back}
 use Rattle.reader.specs.Strings.{string_answer, string_mark, scratch_needed}
@@ -28,7 +28,7 @@ use Rattle.atom.specs.Atoms.{special_taken, bytes_taken, bytes_atom}
 use Rattle.atom.proofs.Answers.{free, judged_left}
 
 -- a charge within the budget leaves the budget less the charge
-pub paid : (b : Budget) (c : ℕ) → c ≤ b.0 → budget_after b c ≡ BA.Left (record { 0 = b.0 - c })
+pub paid : (b : Budget) (c : ℕ) → c ≤ b.0 → budget_after b c ≡ Ok (record { 0 = b.0 - c })
 paid b c h = simp (le-ltb b.0 c h)
 
 -- THE HEADER DECIDES: what follows a written header is read by its kind, just past it
@@ -59,7 +59,7 @@ special_back way special before after budget scratch =
     atom_back way K.Special code before after budget scratch (let l = special_small special in omega arith)
     ∙ sym (judged_left K.Special code next budget (special_taken code first next) budget (free budget)
     (special_below code special here))
-    ∙ ap (λ (a : SpecialAnswer). header_taken K.Special code first next (special_nucleus (special_known a)) budget) here
+    ∙ ap (λ (a : Result Special Refusal). header_taken K.Special code first next (special_nucleus (special_known a)) budget) here
 
 -- a string reads back under every way, from a budget of at least its length, lent or copied
 pub bytes_back : (way : Way) (before bytes after : List ℕ) (budget : Budget) (scratch : List ℕ) →

@@ -1,5 +1,6 @@
 -- Where reading an atom leaves the place and the budget, under every way, refused or not: the place never falls and
 -- never passes the end, and the budget never rises.
+use Rattle.std.specs.Prelude.{Ok, Err}
 use mathlib.Core.Path.{◌≡◌, refl, subst}
 use mathlib.Core.Bool.{Bool, true, false}
 use mathlib.Core.List.{List}
@@ -9,6 +10,7 @@ use native.Mathlib.Nat.{le_trans, le_refl}
 use lib.Dec.{leb, ltb}
 use borrow.Author.Tests.{leb-true}
 use lib.ListN.{length}
+use Rattle.types.specs.Answers.{AtomAnswer, BytesAnswer, HeaderAnswer}
 use Rattle.types.specs.Choice.{pick}
 use Rattle.types.specs.Ways.{exact}
 use Rattle.types.specs.Forms.{known, body_length, charge_of, unknown}
@@ -21,13 +23,6 @@ use Rattle.types.specs.declared.Atom.{Atom}
 use Rattle.types.specs.declared.Refusal.{Refusal}
 use Rattle.types.specs.declared.Refusal.TheVariants as R
 use Rattle.types.specs.declared.Nucleus.{Nucleus}
-use Rattle.types.specs.declared.HeaderAnswer.{HeaderAnswer}
-use Rattle.types.specs.declared.HeaderAnswer.TheVariants as H
-use Rattle.types.specs.declared.BytesAnswer.{BytesAnswer}
-use Rattle.types.specs.declared.BytesAnswer.TheVariants as B
-use Rattle.types.specs.declared.BudgetAnswer.TheVariants as BA
-use Rattle.types.specs.declared.AtomAnswer.{AtomAnswer}
-use Rattle.types.specs.declared.AtomAnswer.TheVariants as A
 use Rattle.header.specs.Header.{header_read}
 use Rattle.header.proofs.Places.{header_place, header_place_lem}
 use Rattle.reader.specs.Strings.{start_of, string_answer, string_place}
@@ -39,12 +34,12 @@ use Rattle.atom.proofs.Numbers.{NumberForm, integers, floats, number_taken, inte
 
 -- the place and the budget after, refused or not
 abbrev pub atom_place : AtomAnswer → ℕ
-atom_place (A.Read p b a) = p.0
-atom_place (A.Refused p b r) = p.0
+atom_place (Ok (p, b, a)) = p.0
+atom_place (Err (p, b, r)) = p.0
 
 abbrev pub atom_budget : AtomAnswer → ℕ
-atom_budget (A.Read p b a) = b.0
-atom_budget (A.Refused p b r) = b.0
+atom_budget (Ok (p, b, a)) = b.0
+atom_budget (Err (p, b, r)) = b.0
 
 -- from a place to the end, from a budget down
 pub record Onward (at end left : ℕ) (a : AtomAnswer) : Type 0 where
@@ -55,15 +50,15 @@ pub record Onward (at end left : ℕ) (a : AtomAnswer) : Type 0 where
 -- a string that answers a place from `at` to the end, with the budget that is left
 bytes_on : (at end left : ℕ) (arg : ℕ) (first next : Place) (rest : Budget) (a : BytesAnswer) → at ≤ string_place a →
     string_place a ≤ end → rest.0 ≤ left → Onward at end left (bytes_atom arg first next rest a)
-bytes_on at end left arg first next rest (B.Read p m) h k l = record { not_back = h; not_past = k; not_up = l }
-bytes_on at end left arg first next rest (B.Refused p r) h k l = record { not_back = h; not_past = k; not_up = l }
+bytes_on at end left arg first next rest (Ok (p, m)) h k l = record { not_back = h; not_past = k; not_up = l }
+bytes_on at end left arg first next rest (Err (p, r)) h k l = record { not_back = h; not_past = k; not_up = l }
 
 -- a charge, and what follows it
 charged_on : (next : Place) (budget : Budget) (charge end : ℕ) (body : Budget → AtomAnswer) → next.0 ≤ end →
     ((rest : Budget) → rest.0 ≤ budget.0 → Onward next.0 end budget.0 (body rest)) →
     (t : Bool) → ltb budget.0 charge ≡ t →
     Onward next.0 end budget.0
-    (charged next budget (pick t (BA.Refused R.TooManyBytesRead) (BA.Left (record { 0 = budget.0 - charge }))) body)
+    (charged next budget (pick t (Err R.TooManyBytesRead) (Ok (record { 0 = budget.0 - charge }))) body)
 charged_on next budget charge end body h f true e =
     record { not_back = le_refl next.0; not_past = h; not_up = le_refl budget.0 }
 charged_on next budget charge end body h f false e = f (record { 0 = budget.0 - charge }) (omega arith)
@@ -73,7 +68,7 @@ module _ (way : Way) (s : List ℕ) (arg : ℕ) (first next : Place) (budget : B
   -- the charge, and whether the atom is known
   known_on : (rest : Budget) → rest.0 ≤ budget.0 → (k : Bool) (a : AtomAnswer) (r : Refusal) →
       Onward next.0 (length s) budget.0 a →
-      Onward next.0 (length s) budget.0 (pick k a (A.Refused next rest r))
+      Onward next.0 (length s) budget.0 (pick k a (Err (next, rest, r)))
   known_on rest l true a r w = w
   known_on rest l false a r w = record { not_back = le_refl next.0; not_past = h; not_up = l }
 
@@ -83,7 +78,7 @@ module _ (way : Way) (s : List ℕ) (arg : ℕ) (first next : Place) (budget : B
   unfolding judged
   judged_on kind body f =
       charged_on next budget (charge_of kind arg) (length s)
-      (λ rest. pick (known kind arg) (body rest) (A.Refused next rest (unknown kind arg))) h
+      (λ rest. pick (known kind arg) (body rest) (Err (next, rest, unknown kind arg))) h
       (λ rest l. known_on rest l (known kind arg) (body rest) (unknown kind arg) (f rest l))
       (ltb budget.0 (charge_of kind arg))
       refl
@@ -99,8 +94,8 @@ module _ (way : Way) (s : List ℕ) (arg : ℕ) (first next : Place) (budget : B
       where
         on : (count : ℕ) (t e : Bool) → leb (next.0 + count) (length s) ≡ t → (x y : Atom) →
             Onward next.0 (length s) budget.0
-            (pick t (A.Read (record { 0 = next.0 + count }) rest x)
-            (pick e (A.Refused (record { 0 = length s }) rest R.Eof) (A.Read (record { 0 = length s }) rest y)))
+            (pick t (Ok (record { 0 = next.0 + count }, rest, x))
+            (pick e (Err (record { 0 = length s }, rest, R.Eof)) (Ok (record { 0 = length s }, rest, y))))
         on count true e f x y =
             record { not_back = omega arith; not_past = leb-true (next.0 + count) (length s) f; not_up = l }
         on count false true f x y = record { not_back = h; not_past = le_refl (length s); not_up = l }
@@ -131,10 +126,10 @@ module _ (way : Way) (s : List ℕ) (arg : ℕ) (first next : Place) (budget : B
 from_on : (way : Way) (s : List ℕ) (first : Place) (at : ℕ) (budget : Budget) (scratch : List ℕ) (a : HeaderAnswer) →
     at ≤ header_place a → header_place a ≤ length s →
     Onward at (length s) budget.0 (atom_from way s first budget scratch a)
-from_on way s first at budget scratch (H.Read next kind arg) h k =
+from_on way s first at budget scratch (Ok (next, kind, arg)) h k =
     let w = after_on way s arg first next budget scratch k kind in
     record { not_back = le_trans h w.not_back; not_past = w.not_past; not_up = w.not_up }
-from_on way s first at budget scratch (H.Refused p r) h k =
+from_on way s first at budget scratch (Err (p, r)) h k =
     record { not_back = h; not_past = k; not_up = le_refl budget.0 }
 
 -- ONWARD: the place never falls and never passes the end, and the budget never rises

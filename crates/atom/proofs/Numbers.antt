@@ -1,11 +1,13 @@
 -- A number that follows a header, over what differs between an integer and a float: its kind, the counts of bytes that
 -- it may have, and what an atom holds of it.
+use Rattle.std.specs.Prelude.{Ok, Err}
 use mathlib.Core.Path.{◌≡◌, refl}
 use mathlib.Core.Bool.{Bool, true, false}
 use mathlib.Core.List.{List}
 use Prim.Native.Nat.{ℕ, ◌+◌}
 use lib.Dec.{leb}
 use lib.ListN.{length}
+use Rattle.types.specs.Answers.{AtomAnswer, FloatAnswer, IntegerAnswer}
 use Rattle.types.specs.Choice.{pick}
 use Rattle.types.specs.Ways.{exact, up_to}
 use Rattle.types.specs.Forms.{allowed_count, allowed_float, count_of, number_charge, known, body_length, charge_of, unknown}
@@ -18,12 +20,6 @@ use Rattle.types.specs.declared.Budget.{Budget}
 use Rattle.types.specs.declared.Nucleus.{Nucleus}
 use Rattle.types.specs.declared.Nucleus.TheVariants as N
 use Rattle.types.specs.declared.Refusal.TheVariants as R
-use Rattle.types.specs.declared.IntegerAnswer.{IntegerAnswer}
-use Rattle.types.specs.declared.IntegerAnswer.TheVariants as IA
-use Rattle.types.specs.declared.FloatAnswer.{FloatAnswer}
-use Rattle.types.specs.declared.FloatAnswer.TheVariants as FA
-use Rattle.types.specs.declared.AtomAnswer.{AtomAnswer}
-use Rattle.types.specs.declared.AtomAnswer.TheVariants as A
 use Rattle.little.specs.Le.{number_at}
 use Rattle.integer.specs.Integers.{integer_kind, integer_of, integer_body}
 use Rattle.float.specs.Floats.{float_of, float_body}
@@ -66,7 +62,7 @@ number_taken n way s arg first next rest =
     up_to way (length s) (next.0 + body_length n.kind arg)
     (λ p. atom_taken n.kind arg first next rest (record { 0 = p })
     (n.nucleus (body_length n.kind arg) (number_at (body_length n.kind arg) s next.0)))
-    (A.Refused (record { 0 = length s }) rest R.Eof)
+    (Err (record { 0 = length s }, rest, R.Eof))
 
 -- and the charge and the count before that
 unfoldable pub number_after : NumberForm → Way → List ℕ → ℕ → Place → Place → Budget → AtomAnswer
@@ -86,9 +82,9 @@ module _ (way : Way) (s : List ℕ) (arg : ℕ) (first next : Place) where
     unfolding integer_body
     integer_taken_lem rest =
         let n = body_length kind arg in
-        let found : ℕ → IntegerAnswer = λ p. IA.Read (record { 0 = p }) (integer_of kind n (number_at n s next.0)) in
+        let found : ℕ → IntegerAnswer = λ p. Ok (record { 0 = p }, integer_of kind n (number_at n s next.0)) in
         through (integer_atom kind arg first next rest) (leb (next.0 + n) (length s)) (exact way) (found (next.0 + n))
-        (IA.Refused (record { 0 = length s }) R.Eof) (found (length s))
+        (Err (record { 0 = length s }, R.Eof)) (found (length s))
 
     pub integer_number : (budget : Budget) →
         judged kind arg next budget (integer_taken way s kind arg first next)
@@ -102,9 +98,9 @@ module _ (way : Way) (s : List ℕ) (arg : ℕ) (first next : Place) where
   float_taken_lem rest =
       let n = body_length K.Float arg in
       let bits = number_at n s next.0 in
-      let found : ℕ → FloatAnswer = λ p. FA.Read (record { 0 = p }) (float_of n bits) bits in
+      let found : ℕ → FloatAnswer = λ p. Ok (record { 0 = p }, float_of n bits, bits) in
       through (float_atom arg first next rest) (leb (next.0 + n) (length s)) (exact way) (found (next.0 + n))
-      (FA.Refused (record { 0 = length s }) R.Eof) (found (length s))
+      (Err (record { 0 = length s }, R.Eof)) (found (length s))
 
   pub float_number : (budget : Budget) →
       judged K.Float arg next budget (float_taken way s arg first next) ≡ number_after floats way s arg first next budget

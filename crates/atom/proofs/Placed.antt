@@ -1,9 +1,11 @@
 -- Every atom that is read carries its first place and the place after it. It rests on the definitions of `Atoms`, kind
 -- by kind: each has the atom's places by `atom_taken`.
+use Rattle.std.specs.Prelude.{Result, Ok, Err}
 use mathlib.Core.Path.{◌≡◌, refl}
 use mathlib.Core.Bool.{Bool, true, false}
 use mathlib.Core.List.{List}
 use Prim.Native.Nat.{ℕ}
+use Rattle.types.specs.Answers.{AtomAnswer, BytesAnswer, FloatAnswer, HeaderAnswer, IntegerAnswer}
 use Rattle.types.specs.Choice.{pick}
 use Rattle.types.specs.Counters.{places_of}
 use Rattle.types.specs.Forms.{known, body_length, charge_of, unknown}
@@ -13,18 +15,6 @@ use Rattle.types.specs.declared.Kind.TheVariants as K
 use Rattle.types.specs.declared.Place.{Place}
 use Rattle.types.specs.declared.Budget.{Budget}
 use Rattle.types.specs.declared.Refusal.{Refusal}
-use Rattle.types.specs.declared.IntegerAnswer.{IntegerAnswer}
-use Rattle.types.specs.declared.IntegerAnswer.TheVariants as IA
-use Rattle.types.specs.declared.FloatAnswer.{FloatAnswer}
-use Rattle.types.specs.declared.FloatAnswer.TheVariants as FA
-use Rattle.types.specs.declared.BytesAnswer.{BytesAnswer}
-use Rattle.types.specs.declared.BytesAnswer.TheVariants as B
-use Rattle.types.specs.declared.BudgetAnswer.{BudgetAnswer}
-use Rattle.types.specs.declared.BudgetAnswer.TheVariants as BA
-use Rattle.types.specs.declared.AtomAnswer.{AtomAnswer}
-use Rattle.types.specs.declared.AtomAnswer.TheVariants as A
-use Rattle.types.specs.declared.HeaderAnswer.{HeaderAnswer}
-use Rattle.types.specs.declared.HeaderAnswer.TheVariants as H
 use Rattle.header.specs.Header.{header_read}
 use Rattle.reader.specs.Strings.{string_answer}
 use Rattle.integer.specs.Integers.{integer_body}
@@ -35,22 +25,22 @@ use Rattle.atom.specs.Atoms.{first_place}
 
 -- EVERY ATOM THAT IS READ CARRIES ITS FIRST PLACE AND THE PLACE AFTER IT
 abbrev pub Placed : Place → AtomAnswer → Type 0
-Placed first (A.Read after rest atom) = atom.places ≡ places_of first atom.places.body after
-Placed first (A.Refused after rest r) = Unit {0}
+Placed first (Ok (after, rest, atom)) = atom.places ≡ places_of first atom.places.body after
+Placed first (Err (after, rest, r)) = Unit {0}
 
 module _ (way : Way) (s : List ℕ) (first next : Place) (arg : ℕ) (scratch : List ℕ) where
   integer_placed : (kind : Kind) (rest : Budget) (a : IntegerAnswer) →
       Placed first (integer_atom kind arg first next rest a)
-  integer_placed kind rest (IA.Read p v) = refl
-  integer_placed kind rest (IA.Refused p r) = tt
+  integer_placed kind rest (Ok (p, v)) = refl
+  integer_placed kind rest (Err (p, r)) = tt
 
   float_placed : (rest : Budget) (a : FloatAnswer) → Placed first (float_atom arg first next rest a)
-  float_placed rest (FA.Read p v bits) = refl
-  float_placed rest (FA.Refused p r) = tt
+  float_placed rest (Ok (p, v, bits)) = refl
+  float_placed rest (Err (p, r)) = tt
 
   bytes_placed : (rest : Budget) (a : BytesAnswer) → Placed first (bytes_atom arg first next rest a)
-  bytes_placed rest (B.Read p m) = refl
-  bytes_placed rest (B.Refused p r) = tt
+  bytes_placed rest (Ok (p, m)) = refl
+  bytes_placed rest (Err (p, r)) = tt
 
   taken_placed : (kind : Kind) (rest : Budget) → Placed first (body_taken way s kind arg first next scratch rest)
   taken_placed K.Special rest = refl
@@ -62,21 +52,21 @@ module _ (way : Way) (s : List ℕ) (first next : Place) (arg : ℕ) (scratch : 
   taken_placed K.Symbol rest = refl
   taken_placed K.Bytes rest = bytes_placed rest (string_answer way s next.0 (body_length K.Bytes arg) scratch)
 
-  charged_placed : (kind : Kind) (budget : Budget) (paid : BudgetAnswer) (k : Bool) (r : Refusal) →
+  charged_placed : (kind : Kind) (budget : Budget) (paid : Result Budget Refusal) (k : Bool) (r : Refusal) →
       Placed first
       (charged next budget paid
-      (λ rest. pick k (body_taken way s kind arg first next scratch rest) (A.Refused next rest r)))
-  charged_placed kind budget (BA.Left rest) true r = taken_placed kind rest
-  charged_placed kind budget (BA.Left rest) false r = tt
-  charged_placed kind budget (BA.Refused q) k r = tt
+      (λ rest. pick k (body_taken way s kind arg first next scratch rest) (Err (next, rest, r))))
+  charged_placed kind budget (Ok rest) true r = taken_placed kind rest
+  charged_placed kind budget (Ok rest) false r = tt
+  charged_placed kind budget (Err q) k r = tt
 
 from_placed : (way : Way) (s : List ℕ) (first : Place) (budget : Budget) (scratch : List ℕ) (h : HeaderAnswer) →
     Placed first (atom_from way s first budget scratch h)
 unfolding judged
-from_placed way s first budget scratch (H.Read next kind arg) =
+from_placed way s first budget scratch (Ok (next, kind, arg)) =
     charged_placed way s first next arg scratch kind budget (budget_after budget (charge_of kind arg)) (known kind arg)
     (unknown kind arg)
-from_placed way s first budget scratch (H.Refused p r) = tt
+from_placed way s first budget scratch (Err (p, r)) = tt
 
 pub atom_placed : (way : Way) (s : List ℕ) (place : ℕ) (budget : Budget) (scratch : List ℕ) →
     Placed (first_place s place) (atom_read way s place budget scratch)

@@ -1,7 +1,9 @@
 -- One atom read. Document 01, "Charges": "Order within an atom: header, then special known, or budget, then count
 -- allowed, then end of input, then scratch room." What a kind and an argument mean stands in `types.Forms`. Document
 -- 02, K1: "Each atom read is to carry its first place, the place where its body starts and the place after it."
-use Rattle.std.specs.Prelude.{ℕ, true, false, List, length}
+use Rattle.std.specs.Prelude.{ℕ, true, false, List, length, Result, Ok, Err}
+use Rattle.types.specs.declared.Refusal.{Refusal}
+use Rattle.types.specs.Answers.{AtomAnswer, BytesAnswer, FloatAnswer, HeaderAnswer, IntegerAnswer}
 use Rattle.types.specs.Choice.{pick}
 use Rattle.types.specs.Counters.{place_in, places_of}
 use Rattle.types.specs.Kinds.{special_from, special_known}
@@ -17,18 +19,6 @@ use Rattle.types.specs.declared.Budget.{Budget}
 use Rattle.types.specs.declared.Nucleus.{Nucleus}
 use Rattle.types.specs.declared.Nucleus.TheVariants as N
 use Rattle.types.specs.declared.Atom.{Atom}
-use Rattle.types.specs.declared.HeaderAnswer.{HeaderAnswer}
-use Rattle.types.specs.declared.HeaderAnswer.TheVariants as H
-use Rattle.types.specs.declared.IntegerAnswer.{IntegerAnswer}
-use Rattle.types.specs.declared.IntegerAnswer.TheVariants as IA
-use Rattle.types.specs.declared.FloatAnswer.{FloatAnswer}
-use Rattle.types.specs.declared.FloatAnswer.TheVariants as FA
-use Rattle.types.specs.declared.BytesAnswer.{BytesAnswer}
-use Rattle.types.specs.declared.BytesAnswer.TheVariants as B
-use Rattle.types.specs.declared.BudgetAnswer.{BudgetAnswer}
-use Rattle.types.specs.declared.BudgetAnswer.TheVariants as BA
-use Rattle.types.specs.declared.AtomAnswer.{AtomAnswer}
-use Rattle.types.specs.declared.AtomAnswer.TheVariants as A
 use Rattle.header.specs.Header.{header_read}
 use Rattle.reader.specs.Strings.{string_answer, string_scratch}
 use Rattle.integer.specs.Integers.{integer_body}
@@ -42,7 +32,7 @@ atom_of kind arg places nucleus = record { kind = kind; arg = arg; places = plac
 -- an atom that was read: it starts at `first`, its body at `body`, and the place after it is the answer's
 abbrev pub atom_taken : Kind → ℕ → Place → Place → Budget → Place → Nucleus → AtomAnswer
 atom_taken kind arg first body rest after nucleus =
-    A.Read after rest (atom_of kind arg (places_of first body after) nucleus)
+    Ok (after, rest, atom_of kind arg (places_of first body after) nucleus)
 
 -- what a special holds
 abbrev pub special_nucleus : Special → Nucleus
@@ -54,10 +44,19 @@ special_nucleus S.Named = N.Named
 special_nucleus S.DynamicMap = N.DynamicMap
 special_nucleus S.DynamicEnd = N.DynamicEnd
 
+-- a refusal at a place, or one that has its place, with the budget that is left
+abbrev pub at_place : {X : Type 0} → Place → Budget → Result X Refusal → Result X (Place × Budget × Refusal)
+at_place place budget (Ok x) = Ok x
+at_place place budget (Err r) = Err (place, budget, r)
+
+abbrev pub with_budget : {X : Type 0} → Budget → Result X (Place × Refusal) → Result X (Place × Budget × Refusal)
+with_budget budget (Ok x) = Ok x
+with_budget budget (Err (place, r)) = Err (place, budget, r)
+
 -- "5 TooManyBytesRead: past header; unchanged"; else what follows, with the budget that is left
-abbrev pub charged : Place → Budget → BudgetAnswer → (Budget → AtomAnswer) → AtomAnswer
-charged next budget (BA.Left rest) body = body rest
-charged next budget (BA.Refused r) body = A.Refused next budget r
+abbrev pub charged : Place → Budget → Result Budget Refusal → (Budget → AtomAnswer) → AtomAnswer
+charged next budget (Ok rest) body = body rest
+charged next budget (Err r) body = Err (next, budget, r)
 
 -- "special known, or budget, then count allowed": the charge first, which a special has none of, then whether the atom
 -- is known. "3 UnknownSpecial: past header; unchanged", "6 UnsupportedByteCount: past header; charged"; else the body,
@@ -65,23 +64,23 @@ charged next budget (BA.Refused r) body = A.Refused next budget r
 unfoldable pub judged : Kind → ℕ → Place → Budget → (Budget → AtomAnswer) → AtomAnswer
 judged kind arg next budget body =
     charged next budget (budget_after budget (charge_of kind arg))
-    (λ rest. pick (known kind arg) (body rest) (A.Refused next rest (unknown kind arg)))
+    (λ rest. pick (known kind arg) (body rest) (Err (next, rest, unknown kind arg)))
 
 -- a number's body, of an allowed count: "4 Eof: end of slice; charged if a body was being read"
 abbrev pub integer_atom : Kind → ℕ → Place → Place → Budget → IntegerAnswer → AtomAnswer
-integer_atom kind arg first next rest (IA.Read place value) =
+integer_atom kind arg first next rest (Ok (place, value)) =
     atom_taken kind arg first next rest place (N.Integer value)
-integer_atom kind arg first next rest (IA.Refused place r) = A.Refused place rest r
+integer_atom kind arg first next rest (Err (place, r)) = Err (place, rest, r)
 
 abbrev pub float_atom : ℕ → Place → Place → Budget → FloatAnswer → AtomAnswer
-float_atom arg first next rest (FA.Read place value bits) =
+float_atom arg first next rest (Ok (place, value, bits)) =
     atom_taken K.Float arg first next rest place (N.Float value bits)
-float_atom arg first next rest (FA.Refused place r) = A.Refused place rest r
+float_atom arg first next rest (Err (place, r)) = Err (place, rest, r)
 
 -- a string's body: "9 NoRoom: scratch: past header, charged"
 abbrev pub bytes_atom : ℕ → Place → Place → Budget → BytesAnswer → AtomAnswer
-bytes_atom arg first next rest (B.Read place mark) = atom_taken K.Bytes arg first next rest place (N.Bytes mark)
-bytes_atom arg first next rest (B.Refused place r) = A.Refused place rest r
+bytes_atom arg first next rest (Ok (place, mark)) = atom_taken K.Bytes arg first next rest place (N.Bytes mark)
+bytes_atom arg first next rest (Err (place, r)) = Err (place, rest, r)
 
 -- what is taken of each, that starts at `first` and whose header ends at `next`, with the budget that is left: an atom
 -- of its header only, and the bodies
@@ -122,9 +121,9 @@ atom_after way source kind arg first next budget scratch =
 
 -- an atom whose header was read; "4 Eof" of the header leaves the budget
 abbrev pub atom_from : Way → List ℕ → Place → Budget → List ℕ → HeaderAnswer → AtomAnswer
-atom_from way source first budget scratch (H.Read next kind arg) =
+atom_from way source first budget scratch (Ok (next, kind, arg)) =
     atom_after way source kind arg first next budget scratch
-atom_from way source first budget scratch (H.Refused place r) = A.Refused place budget r
+atom_from way source first budget scratch (Err (place, r)) = Err (place, budget, r)
 
 -- where an atom starts: "A given place past the end counts as the end."
 abbrev pub first_place : List ℕ → ℕ → Place
@@ -136,9 +135,9 @@ atom_read way source place budget scratch =
     atom_from way source (first_place source place) budget scratch (header_read way source place)
 
 -- the scratch after it: a string copied fills its first bytes, if its charge was within the budget
-abbrev pub scratch_charged : Way → List ℕ → ℕ → ℕ → List ℕ → BudgetAnswer → List ℕ
-scratch_charged way source place arg scratch (BA.Left rest) = string_scratch way source place arg scratch
-scratch_charged way source place arg scratch (BA.Refused r) = scratch
+abbrev pub scratch_charged : Way → List ℕ → ℕ → ℕ → List ℕ → Result Budget Refusal → List ℕ
+scratch_charged way source place arg scratch (Ok rest) = string_scratch way source place arg scratch
+scratch_charged way source place arg scratch (Err r) = scratch
 
 abbrev pub scratch_after : Way → List ℕ → Kind → ℕ → Place → Budget → List ℕ → List ℕ
 scratch_after way source kind arg next budget scratch =
@@ -147,8 +146,8 @@ scratch_after way source kind arg next budget scratch =
     scratch
 
 abbrev pub scratch_from : Way → List ℕ → Budget → List ℕ → HeaderAnswer → List ℕ
-scratch_from way source budget scratch (H.Read next kind arg) = scratch_after way source kind arg next budget scratch
-scratch_from way source budget scratch (H.Refused place r) = scratch
+scratch_from way source budget scratch (Ok (next, kind, arg)) = scratch_after way source kind arg next budget scratch
+scratch_from way source budget scratch (Err (place, r)) = scratch
 
 unfoldable pub atom_scratch : Way → List ℕ → ℕ → Budget → List ℕ → List ℕ
 atom_scratch way source place budget scratch = scratch_from way source budget scratch (header_read way source place)

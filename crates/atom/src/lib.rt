@@ -7,16 +7,15 @@ ghost use Rattle.types.specs.Ways.{unnamed_way};
 ghost use Rattle.types.specs.Counters.{places_of};
 ghost use Rattle.types.specs.Forms.{count_of, number_charge};
 ghost use Rattle.types.specs.declared.Kind.TheVariants as K;
-ghost use Rattle.types.specs.declared.Nucleus.TheVariants as N;
 ghost use Rattle.integer.specs.Integers.{integer_kind};
 ghost use Rattle.float.specs.Floats.{float_of};
 ghost use Rattle.atom.specs.Charges.{budget_after};
-ghost use Rattle.atom.specs.Atoms.{atom_of, special_nucleus, judged, special_taken, integer_taken, float_taken};
+ghost use Rattle.atom.specs.Atoms.{atom_of, special_nucleus, at_place, with_budget, judged, special_taken, integer_taken, float_taken};
 ghost use Rattle.atom.specs.Atoms.{bytes_taken, atom_after, scratch_after, atom_read, atom_scratch};
 
 use types::{
-    Atom, AtomAnswer, Budget, BudgetAnswer, BytesAnswer, HeaderAnswer, Integer, Kind, Mark,
-    Nucleus, Place, Places, Refusal, Special, SpecialAnswer, Way,
+    Atom, AtomAnswer, Budget, BytesAnswer, HeaderAnswer, Integer, Kind, Mark, Nucleus, Place,
+    Places, Refusal, Special, Way,
 };
 
 // The byte count of a number's argument, modulo 2^64 as in the release build.
@@ -41,14 +40,14 @@ pub fn in_memory_int_size(encoded_length: u64) -> u64
 }
 
 // The budget less what is read, or refusal 5.
-pub fn update_budget(budget: Budget, read_amount: u64) -> BudgetAnswer
+pub fn update_budget(budget: Budget, read_amount: u64) -> Result<Budget, Refusal>
     ensures { result ≡ budget_after budget read_amount }
 {
     let remaining = budget.0;
     if remaining < read_amount {
-        return BudgetAnswer::Refused(Refusal::TooManyBytesRead);
+        return Err(Refusal::TooManyBytesRead);
     }
-    BudgetAnswer::Left(Budget(remaining - read_amount))
+    Ok(Budget(remaining - read_amount))
 }
 
 fn nucleus_of(special: Special) -> Nucleus
@@ -65,235 +64,167 @@ fn nucleus_of(special: Special) -> Nucleus
     }
 }
 
-// Atoms put together, by kind, with their places.
-fn header_atom(kind: Kind, arg: u64, first: Place, next: Place, nucleus: Nucleus) -> Atom
-    ensures { result ≡ atom_of kind arg (places_of first next next) nucleus }
-{
-    let places = Places {
-        first,
-        body: next,
-        after: next,
-    };
-    Atom {
-        kind,
-        arg,
-        places,
-        nucleus,
-    }
-}
-
-fn integer_atom(
+// A header that was read: where its atom starts, where the body starts, its kind and its argument.
+#[derive(Clone, Copy)]
+struct Header {
+    first: Place,
+    body: Place,
     kind: Kind,
     arg: u64,
-    first: Place,
-    next: Place,
-    after: Place,
-    value: Integer,
-) -> Atom
-    ensures { result ≡ atom_of kind arg (places_of first next after) (N.Integer value) }
-{
-    let nucleus = Nucleus::Integer(value);
-    let places = Places {
-        first,
-        body: next,
-        after,
-    };
-    Atom {
-        kind,
-        arg,
-        places,
-        nucleus,
+}
+
+impl Header {
+    // The atom that ends at a place and holds what is given.
+    fn atom(self, after: Place, nucleus: Nucleus) -> Atom
+        ensures { result ≡ atom_of self.kind self.arg (places_of self.first self.body after) nucleus }
+    {
+        let places = Places {
+            first: self.first,
+            body: self.body,
+            after,
+        };
+        Atom {
+            kind: self.kind,
+            arg: self.arg,
+            places,
+            nucleus,
+        }
+    }
+
+    // A refusal past this header, before anything is charged.
+    fn past<T>(
+        self,
+        budget: Budget,
+        answer: Result<T, Refusal>,
+    ) -> Result<T, (Place, Budget, Refusal)>
+        ensures { result ≡ at_place self.body budget answer }
+    {
+        answer.map_err(|refusal| (self.body, budget, refusal))
     }
 }
 
-fn float_atom(arg: u64, first: Place, next: Place, after: Place, bytes: u64, bits: u64) -> Atom
-    requires { bits < 256 ^ bytes }
-    ensures { result ≡ atom_of K.Float arg (places_of first next after) (N.Float (float_of bytes bits) bits) }
+// A refusal that has its place, with the budget that is left.
+fn with_budget<T>(
+    budget: Budget,
+    answer: Result<T, (Place, Refusal)>,
+) -> Result<T, (Place, Budget, Refusal)>
+    ensures { result ≡ with_budget budget answer }
 {
-    let nucleus = Nucleus::Float(float::float_of(bytes, bits), bits);
-    let kind = Kind::Float;
-    let places = Places {
-        first,
-        body: next,
-        after,
-    };
-    Atom {
-        kind,
-        arg,
-        places,
-        nucleus,
-    }
-}
-
-fn bytes_atom(arg: u64, first: Place, next: Place, after: Place, mark: Mark) -> Atom
-    ensures { result ≡ atom_of K.Bytes arg (places_of first next after) (N.Bytes mark) }
-{
-    let nucleus = Nucleus::Bytes(mark);
-    let kind = Kind::Bytes;
-    let places = Places {
-        first,
-        body: next,
-        after,
-    };
-    Atom {
-        kind,
-        arg,
-        places,
-        nucleus,
-    }
+    answer.map_err(|(place, refusal)| (place, budget, refusal))
 }
 
 // A special, once its header is read.
-fn read_special(arg: u64, first: Place, next: Place, budget: Budget) -> AtomAnswer
-    ensures { result ≡ judged K.Special arg next budget (special_taken arg first next) }
+fn read_special(header: Header, budget: Budget) -> AtomAnswer
+    requires { header.kind ≡ K.Special }
+    ensures { result ≡
+        judged K.Special header.arg header.body budget
+        (special_taken header.arg header.first header.body) }
 {
-    match Special::try_from(arg) {
-        SpecialAnswer::Known(special) => {
-            let nucleus = nucleus_of(special);
-            let atom = header_atom(Kind::Special, arg, first, next, nucleus);
-            return AtomAnswer::Read(next, budget, atom);
-        }
-        SpecialAnswer::Refused(refusal) => {
-            return AtomAnswer::Refused(next, budget, refusal);
-        }
-    }
+    let next = header.body;
+    let special = header.past(budget, Special::try_from(header.arg))?;
+    Ok((next, budget, header.atom(next, nucleus_of(special))))
 }
 
 // An integer, once its header is read.
-fn read_integer(
-    source: &[u8],
-    kind: Kind,
-    arg: u64,
-    first: Place,
-    next: Place,
-    budget: Budget,
-    way: Way,
-) -> AtomAnswer
-    requires { (next.0 ≤ length source.now) × (integer_kind kind ≡ true) }
-    ensures { result ≡ judged kind arg next budget (integer_taken way source.now kind arg first next) }
+fn read_integer(source: &[u8], header: Header, budget: Budget, way: Way) -> AtomAnswer
+    requires { (header.body.0 ≤ length source.now) × (integer_kind header.kind ≡ true) }
+    ensures { result ≡
+        judged header.kind header.arg header.body budget
+        (integer_taken way source.now header.kind header.arg header.first header.body) }
 {
-    let bytes = count_of(arg);
-    let BudgetAnswer::Left(rest) = update_budget(budget, in_memory_int_size(bytes)) else {
-        return AtomAnswer::Refused(next, budget, Refusal::TooManyBytesRead);
-    };
+    let bytes = count_of(header.arg);
+    let rest = header.past(budget, update_budget(budget, in_memory_int_size(bytes)))?;
     if integer::allowed(bytes) {
-        let at = next.0;
+        let at = header.body.0;
         let count = bytes as usize;
         if count <= source.len() - at {
-            let value = integer::integer_at(kind, source, at, bytes);
+            let value = integer::integer_at(header.kind, source, at, bytes);
             let after = Place(at + count);
-            let atom = integer_atom(kind, arg, first, next, after, value);
-            return AtomAnswer::Read(after, rest, atom);
+            return Ok((after, rest, header.atom(after, Nucleus::Integer(value))));
         }
         let end = Place(source.len());
         if way.is_exact() {
-            return AtomAnswer::Refused(end, rest, Refusal::Eof);
+            return Err((end, rest, Refusal::Eof));
         }
-        let value = integer::filled_integer(kind, source, at, bytes);
-        let atom = integer_atom(kind, arg, first, next, end, value);
-        return AtomAnswer::Read(end, rest, atom);
+        let value = integer::filled_integer(header.kind, source, at, bytes);
+        return Ok((end, rest, header.atom(end, Nucleus::Integer(value))));
     }
-    AtomAnswer::Refused(next, rest, Refusal::unsupported(kind, bytes))
+    Err((header.body, rest, Refusal::unsupported(header.kind, bytes)))
 }
 
 // A float, once its header is read. Its stored bits stand beside its value.
-fn read_float(
-    source: &[u8],
-    arg: u64,
-    first: Place,
-    next: Place,
-    budget: Budget,
-    way: Way,
-) -> AtomAnswer
-    requires { next.0 ≤ length source.now }
-    ensures { result ≡ judged K.Float arg next budget (float_taken way source.now arg first next) }
+fn read_float(source: &[u8], header: Header, budget: Budget, way: Way) -> AtomAnswer
+    requires { (header.body.0 ≤ length source.now) × (header.kind ≡ K.Float) }
+    ensures { result ≡
+        judged K.Float header.arg header.body budget
+        (float_taken way source.now header.arg header.first header.body) }
 {
-    let bytes = count_of(arg);
-    let BudgetAnswer::Left(rest) = update_budget(budget, in_memory_int_size(bytes)) else {
-        return AtomAnswer::Refused(next, budget, Refusal::TooManyBytesRead);
-    };
+    let bytes = count_of(header.arg);
+    let rest = header.past(budget, update_budget(budget, in_memory_int_size(bytes)))?;
     if float::allowed(bytes) {
-        let at = next.0;
+        let at = header.body.0;
         let count = bytes as usize;
         if count <= source.len() - at {
             let bits = float::stored_bits(source, at, bytes);
             let after = Place(at + count);
-            let atom = float_atom(arg, first, next, after, bytes, bits);
-            return AtomAnswer::Read(after, rest, atom);
+            let nucleus = Nucleus::Float(float::float_of(bytes, bits), bits);
+            return Ok((after, rest, header.atom(after, nucleus)));
         }
         let end = Place(source.len());
         if way.is_exact() {
-            return AtomAnswer::Refused(end, rest, Refusal::Eof);
+            return Err((end, rest, Refusal::Eof));
         }
         let bits = float::filled_bits(source, at, bytes);
-        let atom = float_atom(arg, first, next, end, bytes, bits);
-        return AtomAnswer::Read(end, rest, atom);
+        let nucleus = Nucleus::Float(float::float_of(bytes, bits), bits);
+        return Ok((end, rest, header.atom(end, nucleus)));
     }
-    AtomAnswer::Refused(next, rest, Refusal::unsupported(Kind::Float, bytes))
+    Err((header.body, rest, Refusal::unsupported(Kind::Float, bytes)))
 }
 
 // A string, once its header is read: lent as a part of the source, or copied into scratch.
 fn read_bytes(
     source: &[u8],
-    arg: u64,
-    first: Place,
-    next: Place,
+    header: Header,
     budget: Budget,
     scratch: &mut [u8],
     way: Way,
 ) -> AtomAnswer
+    requires { header.kind ≡ K.Bytes }
     ensures value { result ≡
-        judged K.Bytes arg next budget (bytes_taken way source.now arg first next scratch.old) }
+        judged K.Bytes header.arg header.body budget
+        (bytes_taken way source.now header.arg header.first header.body scratch.old) }
     ensures scratch_after { scratch.new ≡
-        scratch_after way source.now K.Bytes arg next budget scratch.old }
+        scratch_after way source.now K.Bytes header.arg header.body budget scratch.old }
 {
-    let BudgetAnswer::Left(rest) = update_budget(budget, arg) else {
-        return AtomAnswer::Refused(next, budget, Refusal::TooManyBytesRead);
-    };
-    match reader::buffered_read_bytes(source, next, arg, scratch, way) {
-        BytesAnswer::Read(place, mark) => {
-            let atom = bytes_atom(arg, first, next, place, mark);
-            return AtomAnswer::Read(place, rest, atom);
-        }
-        BytesAnswer::Refused(place, refusal) => {
-            return AtomAnswer::Refused(place, rest, refusal);
-        }
-    }
+    let rest = header.past(budget, update_budget(budget, header.arg))?;
+    let read = reader::buffered_read_bytes(source, header.body, header.arg, scratch, way);
+    let (after, mark) = with_budget(rest, read)?;
+    Ok((after, rest, header.atom(after, Nucleus::Bytes(mark))))
 }
 
 // What follows a header, by its kind.
 fn read_body(
     source: &[u8],
-    kind: Kind,
-    arg: u64,
-    first: Place,
-    next: Place,
+    header: Header,
     budget: Budget,
     scratch: &mut [u8],
     way: Way,
 ) -> AtomAnswer
-    requires { next.0 ≤ length source.now }
-    ensures value { result ≡ atom_after way source.now kind arg first next budget scratch.old }
+    requires { header.body.0 ≤ length source.now }
+    ensures value { result ≡
+        atom_after way source.now header.kind header.arg header.first header.body budget
+        scratch.old }
     ensures scratch_after { scratch.new ≡
-        scratch_after way source.now kind arg next budget scratch.old }
+        scratch_after way source.now header.kind header.arg header.body budget scratch.old }
 {
-    match kind {
-        Kind::Sequence => {
-            let atom = header_atom(kind, arg, first, next, Nucleus::None);
-            return AtomAnswer::Read(next, budget, atom);
+    match header.kind {
+        Kind::Sequence | Kind::Map | Kind::Symbol => {
+            Ok((header.body, budget, header.atom(header.body, Nucleus::None)))
         }
-        Kind::Map => {
-            let atom = header_atom(kind, arg, first, next, Nucleus::None);
-            return AtomAnswer::Read(next, budget, atom);
-        }
-        Kind::Symbol => {
-            let atom = header_atom(kind, arg, first, next, Nucleus::None);
-            return AtomAnswer::Read(next, budget, atom);
-        }
-        Kind::Special => return read_special(arg, first, next, budget),
-        Kind::Int | Kind::UInt => return read_integer(source, kind, arg, first, next, budget, way),
-        Kind::Float => return read_float(source, arg, first, next, budget, way),
-        Kind::Bytes => return read_bytes(source, arg, first, next, budget, scratch, way),
+        Kind::Special => read_special(header, budget),
+        Kind::Int | Kind::UInt => read_integer(source, header, budget, way),
+        Kind::Float => read_float(source, header, budget, way),
+        Kind::Bytes => read_bytes(source, header, budget, scratch, way),
     }
 }
 
@@ -309,15 +240,15 @@ pub fn read_atom_by(
     ensures scratch_after { scratch.new ≡
         atom_scratch way source.now place.0 budget scratch.old }
 {
-    match header::read_atom_header_by(source, place, way) {
-        HeaderAnswer::Read(next, kind, arg) => {
-            let first = Place(place.within(source.len()));
-            return read_body(source, kind, arg, first, next, budget, scratch, way);
-        }
-        HeaderAnswer::Refused(end, refusal) => {
-            return AtomAnswer::Refused(end, budget, refusal);
-        }
-    }
+    let read = header::read_atom_header_by(source, place, way);
+    let (body, kind, arg) = with_budget(budget, read)?;
+    let header = Header {
+        first: Place(place.within(source.len())),
+        body,
+        kind,
+        arg,
+    };
+    read_body(source, header, budget, scratch, way)
 }
 
 // Reads an atom, strings lent, by the way of the entry that names none.

@@ -1,19 +1,22 @@
 -- The ends of the conversions between formats, over the formats: what the code has in hand at each, and its answer
 -- there.
-use mathlib.Core.Path.{◌≡◌, sym, ap, ◌∙◌}
+use Rattle.std.specs.Prelude.{Some, None, Option}
+use Rattle.std.specs.Bool.{then_some}
+use mathlib.Core.Bool.{Bool, true, false}
+use mathlib.Core.Path.{◌≡◌, refl, sym, ap, ◌∙◌}
 use Prim.Native.Nat.{ℕ, suc, ◌+◌, ◌-◌, ◌*◌, ◌/◌, ◌%◌, ◌^◌, ◌≤◌, ◌<◌}
 use native.Mathlib.Nat.{le_trans, add-zero, zero-mul, lt_of_lt_of_le, mod-eq_of_lt, pow-suc}
 use native.Mathlib.Omega.{arith}
 use borrow.Author.Rules.{rules}
+use borrow.Author.Tests.{eqb-true, eqb-false}
+use lib.Dec.{eqb}
 use lib.Count.{count_leading_zeros}
 use lib.Pow.{pow_pos, pow_mono}
 use mir.Syntax.{Width}
 use mir.Val.{Fits, bits}
 use Rattle.binary.specs.Formats.{Layout, leading, sign_weight, all_ones, negative, exponent, fraction, magnitude}
 use Rattle.binary.specs.Conversions.{with_sign, infinity, candidate, quieted, widened}
-use Rattle.binary.specs.Conversions.{Narrowed, kept, lost, narrowed, answer16, answer32}
-use Rattle.binary.specs.declared.Narrowed16 as N16
-use Rattle.binary.specs.declared.Narrowed32 as N32
+use Rattle.binary.specs.Conversions.{narrowed}
 use Rattle.binary.proofs.Smallests.{same_parts}
 use Rattle.binary.proofs.Patterns.{fraction_lt, exponent_le, two_fields, signed_lt}
 use Rattle.binary.proofs.Narrowing.{gives_infinity}
@@ -51,49 +54,45 @@ not_alone f b e n p q =
     n (sym (two_fields f b) ∙ ap (λ (x : ℕ). x * leading f + fraction f b) p ∙ ap (λ (x : ℕ). e * leading f + x) q
     ∙ add-zero (e * leading f))
 
--- ---- narrowing: the answer is a pattern, or none
-
-pub pattern16 : (r : ℕ) (n : Narrowed) → kept r ≡ n → N16.TheVariants.Pattern r ≡ answer16 n
-pattern16 r n e = ap answer16 e
-
-pub none16 : (n : Narrowed) → lost ≡ n → N16.TheVariants.None ≡ answer16 n
-none16 n e = ap answer16 e
-
-pub pattern32 : (r : ℕ) (n : Narrowed) → kept r ≡ n → N32.TheVariants.Pattern r ≡ answer32 n
-pattern32 r n e = ap answer32 e
-
-pub none32 : (n : Narrowed) → lost ≡ n → N32.TheVariants.None ≡ answer32 n
-none32 n e = ap answer32 e
+-- ---- narrowing: the answer is a pattern if a test holds, and none if not
 
 module _ (narrow wide : Layout) (lift more : ℕ) (W : Widens narrow wide lift more) (b : ℕ) where
   -- a pattern with that rest is the answer
   answered : (r rest : ℕ) → b < 2 * sign_weight wide →
-      narrowed wide narrow b ≡ kept (with_sign narrow (negative wide b) rest) →
-      r ≡ sign wide narrow b + rest → kept r ≡ narrowed wide narrow b
-  answered r rest B e q = ap kept (q ∙ sign_moved wide narrow b rest B) ∙ sym e
+      narrowed wide narrow b ≡ Some (with_sign narrow (negative wide b) rest) →
+      r ≡ sign wide narrow b + rest → Some r ≡ narrowed wide narrow b
+  answered r rest B e q = ap Some (q ∙ sign_moved wide narrow b rest B) ∙ sym e
+
+  -- what a test answers
+  tested : (x y r : ℕ) (o : Option ℕ) → o ≡ then_some (eqb x y) r → (x ≡ y → Some r ≡ narrowed wide narrow b) →
+      ((x ≡ y → ⊥) → None ≡ narrowed wide narrow b) → o ≡ narrowed wide narrow b
+  tested x y r o e found lost = e ∙ go (eqb x y) refl
+    where
+      go : (t : Bool) → eqb x y ≡ t → then_some t r ≡ narrowed wide narrow b
+      go true h = found (eqb-true x y h)
+      go false h = lost (eqb-false x y h)
 
   -- a normal number of the narrower format, if the digits that it drops are zeros
   module _ (above : lift < exponent wide b) (under : exponent wide b < all_ones narrow + lift) where
-    pub normal_exact : (r : ℕ) → b < 2 * sign_weight wide → fraction wide b % 2 ^ more ≡ 0 →
+    pub normal_end : (r : ℕ) (o : Option ℕ) → o ≡ then_some (eqb (fraction wide b % 2 ^ more) 0) r →
+        b < 2 * sign_weight wide →
         r ≡ sign wide narrow b + ((exponent wide b - lift) * leading narrow + fraction wide b / 2 ^ more) →
-        kept r ≡ narrowed wide narrow b
-    normal_exact r B z q =
-        answered r ((exponent wide b - lift) * leading narrow + fraction wide b / 2 ^ more) B
-        (narrow_normal W b above under z) q
-
-    pub normal_none : (fraction wide b % 2 ^ more ≡ 0 → ⊥) → lost ≡ narrowed wide narrow b
-    normal_none n = sym (normal_lost W b above (omega (arith, W.high)) n)
+        o ≡ narrowed wide narrow b
+    normal_end r o e B q =
+        tested (fraction wide b % 2 ^ more) 0 r o e
+        (λ z. answered r ((exponent wide b - lift) * leading narrow + fraction wide b / 2 ^ more) B
+        (narrow_normal W b above under z) q)
+        (λ n. sym (normal_lost W b above (omega (arith, W.high)) n))
 
   -- past those: the infinity, and what is too large or a NaN
   module _ (over : all_ones narrow + lift ≤ exponent wide b) where
-    pub infinity_exact : (r : ℕ) → b < 2 * sign_weight wide → b % sign_weight wide ≡ infinity wide →
-        r ≡ sign wide narrow b + infinity narrow → kept r ≡ narrowed wide narrow b
-    infinity_exact r B i q =
-        let k = alone wide b (all_ones wide) i in
-        answered r (infinity narrow) B (gives_infinity wide narrow b k.0 k.1) q
-
-    pub large_none : (b % sign_weight wide ≡ infinity wide → ⊥) → lost ≡ narrowed wide narrow b
-    large_none n = sym (top_lost W b over (not_alone wide b (all_ones wide) n))
+    pub infinity_end : (r : ℕ) (o : Option ℕ) → o ≡ then_some (eqb (b % sign_weight wide) (infinity wide)) r →
+        b < 2 * sign_weight wide → r ≡ sign wide narrow b + infinity narrow → o ≡ narrowed wide narrow b
+    infinity_end r o e B q =
+        tested (b % sign_weight wide) (infinity wide) r o e
+        (λ i. let k = alone wide b (all_ones wide) i in
+        answered r (infinity narrow) B (gives_infinity wide narrow b k.0 k.1) q)
+        (λ n. sym (top_lost W b over (not_alone wide b (all_ones wide) n)))
 
   -- a subnormal number of the narrower format, if the digits that the significand drops are zeros
   module _ (below : exponent wide b ≤ lift) (near : lift - narrow.fraction_bits < exponent wide b) where
@@ -115,15 +114,14 @@ module _ (narrow wide : Layout) (lift more : ℕ) (W : Widens narrow wide lift m
         omega (arith, fraction_lt wide b, under_sign wide, pow-suc 2 (wide.exponent_bits + wide.fraction_bits)) in
         shift_back (significand wide b) down (digits wide) s
 
-    pub subnormal_exact : (r : ℕ) → b < 2 * sign_weight wide →
-        significand wide b / 2 ^ down * 2 ^ down % 2 ^ digits wide ≡ significand wide b →
-        r ≡ sign wide narrow b + significand wide b / 2 ^ down → kept r ≡ narrowed wide narrow b
-    subnormal_exact r B z q =
-        answered r shorter B (narrow_subnormal W b down down_is below close_by (sym shifted_back ∙ z)) q
-
-    pub subnormal_none : (significand wide b / 2 ^ down * 2 ^ down % 2 ^ digits wide ≡ significand wide b → ⊥) →
-        lost ≡ narrowed wide narrow b
-    subnormal_none n = sym (subnormal_lost W b down down_is below close_by (λ z. n (shifted_back ∙ z)))
+    pub subnormal_end : (r : ℕ) (o : Option ℕ) →
+        o ≡ then_some (eqb (significand wide b / 2 ^ down * 2 ^ down % 2 ^ digits wide) (significand wide b)) r →
+        b < 2 * sign_weight wide → r ≡ sign wide narrow b + significand wide b / 2 ^ down →
+        o ≡ narrowed wide narrow b
+    subnormal_end r o e B q =
+        tested (significand wide b / 2 ^ down * 2 ^ down % 2 ^ digits wide) (significand wide b) r o e
+        (λ z. answered r shorter B (narrow_subnormal W b down down_is below close_by (sym shifted_back ∙ z)) q)
+        (λ n. sym (subnormal_lost W b down down_is below close_by (λ z. n (shifted_back ∙ z))))
 
     -- its pattern fits where those of the narrower format do
     pub subnormal_fits : (w : Width) (r : ℕ) → b < 2 * sign_weight wide → 2 * sign_weight narrow ≤ 2 ^ bits w →
@@ -138,15 +136,13 @@ module _ (narrow wide : Layout) (lift more : ℕ) (W : Widens narrow wide lift m
 
   -- below those: zero, and what is too small
   module _ (low : exponent wide b ≤ lift - narrow.fraction_bits) where
-    pub zero_exact : (r : ℕ) → b < 2 * sign_weight wide → b % sign_weight wide ≡ 0 →
-        r ≡ sign wide narrow b → kept r ≡ narrowed wide narrow b
-    zero_exact r B z q =
-        let k = alone wide b 0 (z ∙ sym (zero-mul (leading wide))) in
-        answered r 0 B (narrow_zero W b k.0 k.1) (q ∙ sym (add-zero (sign wide narrow b)))
-
-    pub small_none : (b % sign_weight wide ≡ 0 → ⊥) → lost ≡ narrowed wide narrow b
-    small_none n =
-        sym (low_lost W b (omega (arith, W.deep)) (not_alone wide b 0 (λ e. n (e ∙ zero-mul (leading wide)))))
+    pub zero_end : (r : ℕ) (o : Option ℕ) → o ≡ then_some (eqb (b % sign_weight wide) 0) r →
+        b < 2 * sign_weight wide → r ≡ sign wide narrow b → o ≡ narrowed wide narrow b
+    zero_end r o e B q =
+        tested (b % sign_weight wide) 0 r o e
+        (λ z. let k = alone wide b 0 (z ∙ sym (zero-mul (leading wide))) in
+        answered r 0 B (narrow_zero W b k.0 k.1) (q ∙ sym (add-zero (sign wide narrow b))))
+        (λ n. sym (low_lost W b (omega (arith, W.deep)) (not_alone wide b 0 (λ e. n (e ∙ zero-mul (leading wide))))))
 
 -- ---- widening a subnormal number, moved up until its leading digit is where a normal number has it
 
@@ -261,13 +257,7 @@ module _ (narrow wide : Layout) (lift more : ℕ) (W : Widens narrow wide lift m
 -- the two pairs of formats
 pub ruleset pairs = (half-single, single-double)
 
-pub ruleset narrow_answers = (pattern16, none16, pattern32, none32)
-
-pub ruleset Narrow-exact = (normal_exact, infinity_exact, subnormal_exact, subnormal_fits, zero_exact)
-
-pub ruleset narrow_none = (normal_none, large_none, subnormal_none, small_none)
-
-pub ruleset narrow_ends = (narrow_answers, Narrow-exact, narrow_none, rules)
+pub ruleset narrow_ends = (normal_end, infinity_end, subnormal_end, subnormal_fits, zero_end, rules)
 
 pub ruleset to_half_ends = (half-single, narrow_ends)
 

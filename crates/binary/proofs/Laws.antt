@@ -1,17 +1,16 @@
 -- The laws of widening and narrowing that other crates cite. W is `half-single` or `single-double`
 -- of `Widths`.
+use Rattle.std.specs.Prelude.{Some, None, Option}
 use mathlib.Core.Path.{◌≡◌, refl, sym, ap, ◌∙◌, subst}
-use mathlib.Core.Bool.{Bool, false≢true}
+use mathlib.Core.Bool.{Bool}
 use Prim.Native.Nat.{ℕ, suc, ◌+◌, ◌-◌, ◌*◌, ◌%◌, ◌^◌, ◌≤◌, ◌<◌}
 use native.Mathlib.Nat.{add-zero, zero-mul, le_of_lt, le_of_eq, mod-lt, pow-suc}
 use native.Mathlib.Omega.{arith}
 use lib.Pow.{pow_pos}
 use Rattle.binary.specs.Formats.{Layout, leading, sign_weight, all_ones, negative, exponent, fraction, unit}
 use Rattle.binary.specs.Formats.{smallests, magnitude, finite, infinite, nan, meaning, NotNan, SameValue}
-use Rattle.binary.specs.Conversions.{with_sign, infinity, quieted, widened, Narrowed, kept, lost, narrowed_meaning}
-use Rattle.binary.specs.Conversions.{narrowed, Narrows, answer16, answer32}
-use Rattle.binary.specs.declared.Narrowed16 as N16
-use Rattle.binary.specs.declared.Narrowed32 as N32
+use Rattle.binary.specs.Conversions.{with_sign, infinity, quieted, widened, narrowed_meaning}
+use Rattle.binary.specs.Conversions.{narrowed, Narrows}
 use Rattle.binary.proofs.Patterns.{rest_lt, signed_lt, fraction_lt, meaning_signed, meant-finite, meant-nan}
 use Rattle.binary.proofs.Patterns.{Reading, is_finite, is_infinite, is_nan_lem, reading, one_pattern}
 use Rattle.binary.proofs.Narrowing.{narrows, one_answer, infinite_here, infinity_lt}
@@ -21,19 +20,19 @@ use Rattle.binary.proofs.Widening.{widened_by, widens_to, widens_infinity}
 -- ---- narrowing, over any two layouts
 
 -- The pattern that is answered has the value.
-pub narrowed_sound : (from to : Layout) (b q : ℕ) → narrowed from to b ≡ kept q → SameValue from to b q
-narrowed_sound from to b q h = subst (λ (n : Narrowed). Narrows from to b n) h (narrows from to b)
+pub narrowed_sound : (from to : Layout) (b q : ℕ) → narrowed from to b ≡ Some q → SameValue from to b q
+narrowed_sound from to b q h = subst (λ (n : Option ℕ). Narrows from to b n) h (narrows from to b)
 
 -- Where a pattern has the value, that pattern is answered.
-pub narrowed_complete : (from to : Layout) (b q : ℕ) → SameValue from to b q → narrowed from to b ≡ kept q
-narrowed_complete from to b q v = one_answer from to b (narrowed from to b) (kept q) (narrows from to b) v
+pub narrowed_complete : (from to : Layout) (b q : ℕ) → SameValue from to b q → narrowed from to b ≡ Some q
+narrowed_complete from to b q v = one_answer from to b (narrowed from to b) (Some q) (narrows from to b) v
 
 -- Where none is answered, no pattern has the value.
-pub narrowed-lost : (from to : Layout) (b : ℕ) → narrowed from to b ≡ lost → (q : ℕ) → SameValue from to b q → ⊥
-narrowed-lost from to b h = subst (λ (n : Narrowed). Narrows from to b n) h (narrows from to b)
+pub narrowed-lost : (from to : Layout) (b : ℕ) → narrowed from to b ≡ None → (q : ℕ) → SameValue from to b q → ⊥
+narrowed-lost from to b h = subst (λ (n : Option ℕ). Narrows from to b n) h (narrows from to b)
 
 -- A NaN has no narrower pattern.
-pub narrowed-nan : (from to : Layout) (b : ℕ) (s : Bool) (t : ℕ) → meaning from b ≡ nan s t → narrowed from to b ≡ lost
+pub narrowed-nan : (from to : Layout) (b : ℕ) (s : Bool) (t : ℕ) → meaning from b ≡ nan s t → narrowed from to b ≡ None
 unfolding narrowed
 narrowed-nan from to b s t h = ap (narrowed_meaning to) h
 
@@ -43,7 +42,7 @@ unfolding smallests
 zero_magnitude f = zero-mul (2 ^ unit f)
 
 pub narrowed_zero : (from to : Layout) (b : ℕ) (s : Bool) → 0 < all_ones to → meaning from b ≡ finite s 0 →
-    narrowed from to b ≡ kept (with_sign to s 0)
+    narrowed from to b ≡ Some (with_sign to s 0)
 narrowed_zero from to b s o h =
     let m : meaning to (with_sign to s 0) ≡ finite s 0 =
     ap (λ (x : ℕ). meaning to (with_sign to s x)) (sym (add-zero (0 * leading to) ∙ zero-mul (leading to)))
@@ -54,7 +53,7 @@ narrowed_zero from to b s o h =
     (signed_lt to s 0 (pow_pos (to.exponent_bits + to.fraction_bits)), subst NotNan (sym h) tt, m ∙ sym h)
 
 pub narrowed-infinite : (from to : Layout) (b : ℕ) (s : Bool) → meaning from b ≡ infinite s →
-    narrowed from to b ≡ kept (with_sign to s (infinity to))
+    narrowed from to b ≡ Some (with_sign to s (infinity to))
 unfolding narrowed
 narrowed-infinite from to b s h = ap (narrowed_meaning to) h
 
@@ -85,7 +84,7 @@ module _ {narrow wide : Layout} {lift more : ℕ} (W : Widens narrow wide lift m
 
   -- ---- and back
 
-  pub widened-narrowed : (b q : ℕ) → b < 2 * sign_weight wide → narrowed wide narrow b ≡ kept q →
+  pub widened-narrowed : (b q : ℕ) → b < 2 * sign_weight wide → narrowed wide narrow b ≡ Some q →
       widened narrow wide q ≡ b
   widened-narrowed b q B h =
       let v = narrowed_sound wide narrow b q h in
@@ -117,21 +116,3 @@ widened-nan from to b s t p h =
     ∙ meant-nan to s (all_ones to) u refl
     (quieted_pos (2 ^ (to.fraction_bits - 1))
     (t * 2 ^ (to.fraction_bits - from.fraction_bits) % 2 ^ (to.fraction_bits - 1)) (pow_pos (to.fraction_bits - 1)))
-
--- ---- from the code's answers to the definition's
-
-pub kept16 : (n : Narrowed) (q : ℕ) → answer16 n ≡ N16.TheVariants.Pattern q → n ≡ kept q
-kept16 (kept r) q h = let e : r ≡ q = cc in ap kept e
-kept16 lost q h = absurd (false≢true cc)
-
-pub lost16 : (n : Narrowed) → answer16 n ≡ N16.TheVariants.None → n ≡ lost
-lost16 (kept r) h = absurd (false≢true cc)
-lost16 lost h = refl
-
-pub kept32 : (n : Narrowed) (q : ℕ) → answer32 n ≡ N32.TheVariants.Pattern q → n ≡ kept q
-kept32 (kept r) q h = let e : r ≡ q = cc in ap kept e
-kept32 lost q h = absurd (false≢true cc)
-
-pub lost32 : (n : Narrowed) → answer32 n ≡ N32.TheVariants.None → n ≡ lost
-lost32 (kept r) h = absurd (false≢true cc)
-lost32 lost h = refl

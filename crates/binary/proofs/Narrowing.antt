@@ -1,5 +1,6 @@
 -- What `narrowed` answers, over any two layouts: by the fields of a pattern that has the value (`gives`), or because
 -- none has it (`loses`). And what it means: `narrows`, with `one_answer`, that no other answer does.
+use Rattle.std.specs.Prelude.{Option, Some, None}
 use mathlib.Core.Path.{◌≡◌, refl, sym, ap, ◌∙◌, subst}
 use mathlib.Core.Bool.{Bool, true, false, cond, ◌&&◌, false≢true}
 use Prim.Native.Nat.{ℕ, ◌+◌, ◌*◌, ◌/◌, ◌%◌, ◌<◌}
@@ -9,7 +10,7 @@ use lib.Dec.{ltb, eqb}
 use lib.Pow.{pow_pos}
 use borrow.Author.Tests.{ltb-true, eqb-true}
 use Rattle.binary.specs.Formats.{Layout, leading, sign_weight, all_ones, negative, exponent, fraction, magnitude, Meaning, finite, infinite, nan, meaning, NotNan}
-use Rattle.binary.specs.Conversions.{with_sign, infinity, candidate, has, Narrowed, kept, lost, narrowed_meaning, narrowed, Narrows}
+use Rattle.binary.specs.Conversions.{with_sign, infinity, candidate, has, narrowed_meaning, narrowed, Narrows}
 use Rattle.binary.proofs.Patterns.{rest_lt, signed_lt, fraction_lt, meaning_signed, meant-finite, meant-infinite, Reading, is_finite, is_infinite, is_nan_lem, reading, one_pattern, candidate_is, has_it}
 
 pub narrowed_by : (from to : Layout) (b : ℕ) (m : Meaning) → meaning from b ≡ m →
@@ -56,33 +57,33 @@ found f m h =
 module _ (from to : Layout) (b : ℕ) where
   pub gives : (e t : ℕ) → exponent from b < all_ones from → e < all_ones to → t < leading to
       → magnitude to e t ≡ magnitude from (exponent from b) (fraction from b)
-      → narrowed from to b ≡ kept (with_sign to (negative from b) (e * leading to + t))
+      → narrowed from to b ≡ Some (with_sign to (negative from b) (e * leading to + t))
   gives e t F E T same =
       narrowed_by from to b (finite (negative from b) (magnitude to e t))
       (finite-meaning from b F ∙ ap (finite (negative from b)) (sym same))
-      ∙ ap (λ (x : Bool). cond x (kept (with_sign to (negative from b) (candidate to (magnitude to e t)))) lost)
+      ∙ ap (λ (x : Bool). cond x (Some (with_sign to (negative from b) (candidate to (magnitude to e t)))) None)
       (has_it to e t E T)
-      ∙ ap (λ (x : ℕ). kept (with_sign to (negative from b) x)) (candidate_is to e t T)
+      ∙ ap (λ (x : ℕ). Some (with_sign to (negative from b) x)) (candidate_is to e t T)
 
   pub loses : exponent from b < all_ones from
       → ((e t : ℕ) → e < all_ones to → t < leading to →
       magnitude to e t ≡ magnitude from (exponent from b) (fraction from b) → ⊥)
-      → narrowed from to b ≡ lost
+      → narrowed from to b ≡ None
   loses F none = narrowed_by from to b (finite (negative from b) m) (finite-meaning from b F) ∙ go (has to m) refl
     where
       m : ℕ
       m = magnitude from (exponent from b) (fraction from b)
 
       go : (x : Bool) → has to m ≡ x →
-          cond (has to m) (kept (with_sign to (negative from b) (candidate to m))) lost ≡ lost
+          cond (has to m) (Some (with_sign to (negative from b) (candidate to m))) None ≡ None
       go true h = let k = found to m h in absurd (none k.0 k.1 k.2 k.3 k.5)
-      go false h = ap (λ (x : Bool). cond x (kept (with_sign to (negative from b) (candidate to m))) lost) h
+      go false h = ap (λ (x : Bool). cond x (Some (with_sign to (negative from b) (candidate to m))) None) h
 
   pub gives_infinity : exponent from b ≡ all_ones from → fraction from b ≡ 0 →
-      narrowed from to b ≡ kept (with_sign to (negative from b) (infinity to))
+      narrowed from to b ≡ Some (with_sign to (negative from b) (infinity to))
   gives_infinity E Z = go (reading from b)
     where
-      go : Reading from b → narrowed from to b ≡ kept (with_sign to (negative from b) (infinity to))
+      go : Reading from b → narrowed from to b ≡ Some (with_sign to (negative from b) (infinity to))
       go (is_infinite e z m) = narrowed_by from to b (infinite (negative from b)) m
       go (is_finite e m) = absurd (clash (exponent from b) (all_ones from) e E)
       go (is_nan_lem e n m) = absurd (some (fraction from b) n Z)
@@ -90,10 +91,10 @@ module _ (from to : Layout) (b : ℕ) where
           some : (t : ℕ) → 0 < t → t ≡ 0 → ⊥
           some t h q = omega arith
 
-  pub loses_nan : exponent from b ≡ all_ones from → (fraction from b ≡ 0 → ⊥) → narrowed from to b ≡ lost
+  pub loses_nan : exponent from b ≡ all_ones from → (fraction from b ≡ 0 → ⊥) → narrowed from to b ≡ None
   loses_nan E N = go (reading from b)
     where
-      go : Reading from b → narrowed from to b ≡ lost
+      go : Reading from b → narrowed from to b ≡ None
       go (is_nan_lem e n m) = narrowed_by from to b (nan (negative from b) (fraction from b)) m
       go (is_infinite e z m) = absurd (N z)
       go (is_finite e m) = absurd (clash (exponent from b) (all_ones from) e E)
@@ -145,7 +146,7 @@ narrows_meaning from to b (finite s m) h = go (has to m) refl
     lacks : (x : Bool) → x ≡ false → x ≡ true → ⊥
     lacks x p q = false≢true cc
 
-    go : (x : Bool) → has to m ≡ x → Narrows from to b (cond (has to m) (kept (with_sign to s (candidate to m))) lost)
+    go : (x : Bool) → has to m ≡ x → Narrows from to b (cond (has to m) (Some (with_sign to s (candidate to m))) None)
     go true e =
         let k = found to m e in
         rw (e, k.4) (
@@ -161,11 +162,11 @@ narrows_meaning from to b (nan s t) h = λ q v. subst NotNan h v.1
 -- narrowing answers exactly if a pattern of the narrower format has the sign and the magnitude, and gives that one
 pub narrows : (from to : Layout) (b : ℕ) → Narrows from to b (narrowed from to b)
 narrows from to b =
-    subst (λ (n : Narrowed). Narrows from to b n) (sym (narrowed_by from to b (meaning from b) refl))
+    subst (λ (n : Option ℕ). Narrows from to b n) (sym (narrowed_by from to b (meaning from b) refl))
     (narrows_meaning from to b (meaning from b) refl)
 
-pub one_answer : (from to : Layout) (b : ℕ) (x y : Narrowed) → Narrows from to b x → Narrows from to b y → x ≡ y
-one_answer from to b (kept q) (kept r) h k = ap kept (one_pattern to q r h.0 k.0 (h.2 ∙ sym k.2))
-one_answer from to b (kept q) lost h k = absurd (k q h)
-one_answer from to b lost (kept r) h k = absurd (h r k)
-one_answer from to b lost lost h k = refl
+pub one_answer : (from to : Layout) (b : ℕ) (x y : Option ℕ) → Narrows from to b x → Narrows from to b y → x ≡ y
+one_answer from to b (Some q) (Some r) h k = ap Some (one_pattern to q r h.0 k.0 (h.2 ∙ sym k.2))
+one_answer from to b (Some q) None h k = absurd (k q h)
+one_answer from to b None (Some r) h k = absurd (h r k)
+one_answer from to b None None h k = refl

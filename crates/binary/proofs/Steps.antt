@@ -1,5 +1,6 @@
 -- What the branches of the code come to, once for every pair of formats: each lemma takes a branch's tests and gives
 -- what `narrowed` or `widened` answers there.
+use Rattle.std.specs.Prelude.{Some, None}
 use mathlib.Core.Path.{◌≡◌, refl, sym, ap, ◌∙◌, subst}
 use mathlib.Core.Logic.{◌⊎◌, inl, inr}
 use mathlib.Core.Bool.{Bool, true, false, cond}
@@ -14,7 +15,7 @@ use lib.Count.{count_leading_zeros, leading_top}
 use lib.Pow.{pow-add, pow_pos, pow_mono, shl_lt, shr_lt}
 use borrow.Author.Tests.{leb-true, leb-false}
 use Rattle.binary.specs.Formats.{Layout, leading, sign_weight, all_ones, negative, exponent, fraction, magnitude}
-use Rattle.binary.specs.Conversions.{with_sign, candidate, kept, lost, narrowed}
+use Rattle.binary.specs.Conversions.{with_sign, candidate, narrowed}
 use Rattle.binary.proofs.Smallests.{pow_lt_back, raised_le, raised_lt, Origin, from_zero, from_subnormal}
 use Rattle.binary.proofs.Smallests.{from_normal}
 use Rattle.binary.proofs.Patterns.{rest_lt, exponent_le, fraction_lt, candidate_is}
@@ -78,7 +79,7 @@ module _ {narrow wide : Layout} {lift more : ℕ} (W : Widens narrow wide lift m
 
   -- a normal number of the narrower format: the digits that it drops are zeros
   pub narrow_normal : lift < exponent wide b → exponent wide b < all_ones narrow + lift → fraction wide b % 2 ^ more ≡ 0
-      → narrowed wide narrow b ≡ kept
+      → narrowed wide narrow b ≡ Some
       (with_sign narrow (negative wide b) ((exponent wide b - lift) * leading narrow + fraction wide b / 2 ^ more))
   narrow_normal lo hi z =
       let e = exponent wide b - lift in
@@ -95,7 +96,7 @@ module _ {narrow wide : Layout} {lift more : ℕ} (W : Widens narrow wide lift m
   -- no number of the narrower format, since wherever one comes from the tests say otherwise
   narrow_none : exponent wide b < all_ones wide
       → ((e t : ℕ) → e < all_ones narrow → From e t → ⊥)
-      → narrowed wide narrow b ≡ lost
+      → narrowed wide narrow b ≡ None
   narrow_none F none =
       loses wide narrow b F
       (λ e t E T same. none e t E (comes_from W e t (exponent wide b) (fraction wide b) T (fraction_lt wide b) same))
@@ -107,7 +108,7 @@ module _ {narrow wide : Layout} {lift more : ℕ} (W : Widens narrow wide lift m
   above_zero e u h q = omega arith
 
   pub normal_lost : lift < exponent wide b → exponent wide b < all_ones wide → (fraction wide b % 2 ^ more ≡ 0 → ⊥) →
-      narrowed wide narrow b ≡ lost
+      narrowed wide narrow b ≡ None
   normal_lost lo F n = narrow_none F go
     where
       go : (e t : ℕ) → e < all_ones narrow → From e t → ⊥
@@ -116,7 +117,7 @@ module _ {narrow wide : Layout} {lift more : ℕ} (W : Widens narrow wide lift m
       go e t E (from_normal a x y) = n (ap (λ (k : ℕ). k % 2 ^ more) y ∙ mul-mod_left t (2 ^ more))
 
   -- too large
-  high_lost : all_ones narrow + lift ≤ exponent wide b → exponent wide b < all_ones wide → narrowed wide narrow b ≡ lost
+  high_lost : all_ones narrow + lift ≤ exponent wide b → exponent wide b < all_ones wide → narrowed wide narrow b ≡ None
   high_lost hi F = narrow_none F go
     where
       lo : lift < exponent wide b
@@ -132,10 +133,10 @@ module _ {narrow wide : Layout} {lift more : ℕ} (W : Widens narrow wide lift m
 
   -- too large, or a NaN
   pub top_lost : all_ones narrow + lift ≤ exponent wide b → (exponent wide b ≡ all_ones wide → fraction wide b ≡ 0 → ⊥) →
-      narrowed wide narrow b ≡ lost
+      narrowed wide narrow b ≡ None
   top_lost hi n = go (eq-or-lt_of_le (exponent_le wide b))
     where
-      go : (exponent wide b ≡ all_ones wide) ⊎ (exponent wide b < all_ones wide) → narrowed wide narrow b ≡ lost
+      go : (exponent wide b ≡ all_ones wide) ⊎ (exponent wide b < all_ones wide) → narrowed wide narrow b ≡ None
       go (inl e) = loses_nan wide narrow b e (n e)
       go (inr l) = high_lost hi l
 
@@ -154,7 +155,7 @@ module _ {narrow wide : Layout} {lift more : ℕ} (W : Widens narrow wide lift m
         (pow_mono {i = suc wide.fraction_bits} {j = narrow.fraction_bits + down} (omega (arith, W.fractions))))
 
     pub narrow_subnormal : significand wide b / 2 ^ down * 2 ^ down ≡ significand wide b →
-        narrowed wide narrow b ≡ kept (with_sign narrow (negative wide b) (significand wide b / 2 ^ down))
+        narrowed wide narrow b ≡ Some (with_sign narrow (negative wide b) (significand wide b / 2 ^ down))
     narrow_subnormal z =
         let j = down - more in
         let first : 0 < exponent wide b = past_zero (exponent wide b) lift narrow.fraction_bits near W.deep in
@@ -174,11 +175,11 @@ module _ {narrow wide : Layout} {lift more : ℕ} (W : Widens narrow wide lift m
         (kept_subnormal W j t (moved down (exponent wide b) lift more is first) enough
         ∙ ap (λ (x : ℕ). magnitude wide x (t * 2 ^ (j + more) - leading wide)) e-is
         ∙ ap (magnitude wide (exponent wide b)) t-is)
-        ∙ ap (λ (x : ℕ). kept (with_sign narrow (negative wide b) (x + t))) (zero-mul (leading narrow))
-        ∙ ap (λ (x : ℕ). kept (with_sign narrow (negative wide b) x)) (zero-add t)
+        ∙ ap (λ (x : ℕ). Some (with_sign narrow (negative wide b) (x + t))) (zero-mul (leading narrow))
+        ∙ ap (λ (x : ℕ). Some (with_sign narrow (negative wide b) x)) (zero-add t)
 
     pub subnormal_lost : (significand wide b / 2 ^ down * 2 ^ down ≡ significand wide b → ⊥) →
-        narrowed wide narrow b ≡ lost
+        narrowed wide narrow b ≡ None
     subnormal_lost n = narrow_none finite_here go
       where
         not_zero : exponent wide b ≡ 0 → ⊥
@@ -201,7 +202,7 @@ module _ {narrow wide : Layout} {lift more : ℕ} (W : Widens narrow wide lift m
 
   -- too small
   pub low_lost : exponent wide b + narrow.fraction_bits ≤ lift → (exponent wide b ≡ 0 → fraction wide b ≡ 0 → ⊥) →
-      narrowed wide narrow b ≡ lost
+      narrowed wide narrow b ≡ None
   low_lost lo n = narrow_none (omega (arith, W.high, W.some)) go
     where
       over : (j : ℕ) → j ≤ narrow.fraction_bits → exponent wide b + j ≡ suc lift → ⊥
@@ -216,11 +217,11 @@ module _ {narrow wide : Layout} {lift more : ℕ} (W : Widens narrow wide lift m
       go e t E (from_normal a x y) = under e a x
 
   pub narrow_zero : exponent wide b ≡ 0 → fraction wide b ≡ 0 →
-      narrowed wide narrow b ≡ kept (with_sign narrow (negative wide b) 0)
+      narrowed wide narrow b ≡ Some (with_sign narrow (negative wide b) 0)
   narrow_zero e z =
       gives wide narrow b 0 0 (omega (arith, W.high, W.some)) W.some (pow_pos narrow.fraction_bits)
       (kept_zero W ∙ ap (λ (x : ℕ). magnitude wide x 0) (sym e) ∙ ap (magnitude wide (exponent wide b)) (sym z))
-      ∙ ap (λ (x : ℕ). kept (with_sign narrow (negative wide b) (x + 0))) (zero-mul (leading narrow))
+      ∙ ap (λ (x : ℕ). Some (with_sign narrow (negative wide b) (x + 0))) (zero-mul (leading narrow))
 
 -- ---- widening a subnormal number
 

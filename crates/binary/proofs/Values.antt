@@ -1,6 +1,7 @@
 -- The logic's own account of `f32` and `f64` agrees with the formats of this crate: what `of_bits` reads from a pattern
 -- has the pattern's sign and magnitude, is the same infinity, or is the NaN exactly at a NaN's pattern. Rests on
 -- `lib.Ieee`: that `odd` keeps its value, and that what is read fits its format.
+use Rattle.std.specs.Prelude.{Some}
 use mathlib.Core.Path.{◌≡◌, refl, sym, ap, ◌∙◌, subst}
 use mathlib.Core.Bool.{Bool, true, false, cond, false≢true}
 use Prim.Native.Nat.{ℕ, zero, suc, ◌+◌, ◌-◌, ◌*◌, ◌/◌, ◌%◌, ◌^◌, ◌<◌}
@@ -12,7 +13,7 @@ use lib.Ieee.Bits.{of_bits-fits, of_bits-to_bits, to_bits-lt}
 use lib.Ieee.Exact.{HasValue, odd_sign}
 use lib.Ieee.Fits.{fits_widens}
 use Rattle.binary.specs.Formats.{half, single, double, leading, sign_weight, all_ones, unit, negative, fraction, smallests, magnitude, Meaning, finite, infinite, nan, meaning, NotNan}
-use Rattle.binary.specs.Conversions.{quieted, widened, kept, narrowed}
+use Rattle.binary.specs.Conversions.{quieted, widened, narrowed}
 use Rattle.binary.specs.Floats.{layout_of, units_of, float_meaning, plain}
 use Rattle.binary.proofs.Units.{Fine, fine, counted}
 use Rattle.binary.proofs.Patterns.{meant, meaning_is, meant-finite, Reading, is_finite, is_infinite, is_nan_lem, reading, one_pattern}
@@ -167,7 +168,7 @@ widened_value b = go (reading single b)
         ∙ sym (nan_value binary32 b (negative single b) (fraction single b) m)
 
 -- what narrows is the same float
-pub narrowed_value : (b q : ℕ) → b < 2 * sign_weight double → narrowed double single b ≡ kept q →
+pub narrowed_value : (b q : ℕ) → b < 2 * sign_weight double → narrowed double single b ≡ Some q →
     of_bits binary32 q ≡ of_bits binary64 b
 narrowed_value b q B h = sym (widened_value q) ∙ ap (of_bits binary64) (widened-narrowed single-double b q B h)
 

@@ -1,11 +1,9 @@
 -- Widening and exact narrowing, as definitions that compute. What each is meant to be stands in words;
 -- `proofs/Laws.antt` proves that it is.
-use Rattle.std.specs.Prelude.{ℕ, ◌+◌, ◌-◌, ◌*◌, ◌/◌, ◌%◌, ◌^◌, Bool, cond, ◌&&◌, ltb, eqb}
+use Rattle.std.specs.Prelude.{ℕ, ◌+◌, ◌-◌, ◌*◌, ◌/◌, ◌%◌, ◌^◌, Bool, cond, ◌&&◌, ltb, eqb, Option, Some, None}
 use Rattle.std.specs.Float.Ieee.{size}
 use Rattle.binary.specs.Formats.{Layout, leading, sign_weight, all_ones, unit, magnitude}
 use Rattle.binary.specs.Formats.{Meaning, finite, infinite, nan, meaning, SameValue}
-use Rattle.binary.specs.declared.Narrowed16 as N16
-use Rattle.binary.specs.declared.Narrowed32 as N32
 
 -- a pattern from its sign and the rest
 abbrev pub with_sign : Layout → Bool → ℕ → ℕ
@@ -50,29 +48,16 @@ widened from to b = widened_meaning from to (meaning from b)
 
 -- ---- narrowing: the pattern of the narrower format with that sign and magnitude, if there is one; a NaN has none
 
-pub data Narrowed : Type 0 where
-  kept : ℕ → Narrowed
-  lost : Narrowed
+abbrev pub narrowed_meaning : Layout → Meaning → Option ℕ
+narrowed_meaning to (finite s m) = cond (has to m) (Some (with_sign to s (candidate to m))) None
+narrowed_meaning to (infinite s) = Some (with_sign to s (infinity to))
+narrowed_meaning to (nan s t) = None
 
-abbrev pub narrowed_meaning : Layout → Meaning → Narrowed
-narrowed_meaning to (finite s m) = cond (has to m) (kept (with_sign to s (candidate to m))) lost
-narrowed_meaning to (infinite s) = kept (with_sign to s (infinity to))
-narrowed_meaning to (nan s t) = lost
-
-unfoldable pub narrowed : Layout → Layout → ℕ → Narrowed
+unfoldable pub narrowed : Layout → Layout → ℕ → Option ℕ
 unfolding meaning packed
 narrowed from to b = narrowed_meaning to (meaning from b)
 
 -- what is meant: the pattern that is answered has the value, and where none is answered no pattern has it
-abbrev pub Narrows : Layout → Layout → ℕ → Narrowed → Type 0
-Narrows from to b (kept q) = SameValue from to b q
-Narrows from to b lost = (q : ℕ) → SameValue from to b q → ⊥
-
--- the code's answers
-abbrev pub answer16 : Narrowed → N16.Narrowed16
-answer16 (kept q) = N16.TheVariants.Pattern q
-answer16 lost = N16.TheVariants.None
-
-abbrev pub answer32 : Narrowed → N32.Narrowed32
-answer32 (kept q) = N32.TheVariants.Pattern q
-answer32 lost = N32.TheVariants.None
+abbrev pub Narrows : Layout → Layout → ℕ → Option ℕ → Type 0
+Narrows from to b (Some q) = SameValue from to b q
+Narrows from to b None = (q : ℕ) → SameValue from to b q → ⊥

@@ -10,23 +10,10 @@ ghost use Rattle.binary.specs.Conversions.{
   candidate,
   widened,
   narrowed,
-  answer16,
-  answer32,
 };
 
-// The binary16 pattern of a binary32 value, if there is one.
-#[derive(Clone, Copy)]
-pub enum Narrowed16 {
-    Pattern(u16),
-    None,
-}
-
-// The binary32 pattern of a binary64 value, if there is one.
-#[derive(Clone, Copy)]
-pub enum Narrowed32 {
-    Pattern(u32),
-    None,
-}
+// Each conversion stands once for each pair of formats: one function for both pairs would take the widths of two
+// formats as parameters and make each number here of them, and is no plainer.
 
 // The binary32 pattern of `fraction` times 2^-24, a binary16 subnormal without its sign: the fraction
 // moves up until its leading digit stands where a normal number has it.
@@ -96,83 +83,51 @@ pub fn f32_to_f64_bits(b: u32) -> u64
 }
 
 // The binary16 pattern with the sign and the magnitude of a binary32 one, if there is one.
-pub fn f32_to_f16_bits(b: u32) -> Narrowed16
-    ensures { result ≡ answer16 (narrowed single half b) }
+pub fn f32_to_f16_bits(b: u32) -> Option<u16>
+    ensures { result ≡ narrowed single half b }
 {
     let sign = b / 0x8000_0000 * 0x8000;
     let rest = b % 0x8000_0000;
     let exponent = rest / 0x80_0000;
     let fraction = b % 0x80_0000;
+    if 143 <= exponent {
+        return (rest == 0x7F80_0000).then_some((sign + 0x7C00) as u16);
+    }
     if 112 < exponent {
-        if exponent < 143 {
-            if fraction % 0x2000 == 0 {
-                let moved = (exponent - 112) * 0x400 + fraction / 0x2000;
-                let pattern = (sign + moved) as u16;
-                return Narrowed16::Pattern(pattern);
-            }
-            return Narrowed16::None;
-        }
-        if rest == 0x7F80_0000 {
-            let pattern = (sign + 0x7C00) as u16;
-            return Narrowed16::Pattern(pattern);
-        }
-        return Narrowed16::None;
+        let moved = (exponent - 112) * 0x400 + fraction / 0x2000;
+        return (fraction % 0x2000 == 0).then_some((sign + moved) as u16);
     }
     if 102 < exponent {
         let significand = 0x80_0000 + fraction;
         let down = 126 - exponent;
         let kept = significand >> down;
-        if kept << down == significand {
-            let pattern = (sign + kept) as u16;
-            return Narrowed16::Pattern(pattern);
-        }
-        return Narrowed16::None;
+        return (kept << down == significand).then_some((sign + kept) as u16);
     }
-    if rest == 0 {
-        let pattern = sign as u16;
-        return Narrowed16::Pattern(pattern);
-    }
-    Narrowed16::None
+    (rest == 0).then_some(sign as u16)
 }
 
 // The binary32 pattern with the sign and the magnitude of a binary64 one, if there is one.
-pub fn f64_to_f32_bits(b: u64) -> Narrowed32
-    ensures { result ≡ answer32 (narrowed double single b) }
+pub fn f64_to_f32_bits(b: u64) -> Option<u32>
+    ensures { result ≡ narrowed double single b }
 {
     let sign = b / 0x8000_0000_0000_0000 * 0x8000_0000;
     let rest = b % 0x8000_0000_0000_0000;
     let exponent = rest / 0x10_0000_0000_0000;
     let fraction = b % 0x10_0000_0000_0000;
+    if 1151 <= exponent {
+        return (rest == 0x7FF0_0000_0000_0000).then_some((sign + 0x7F80_0000) as u32);
+    }
     if 896 < exponent {
-        if exponent < 1151 {
-            if fraction % 0x2000_0000 == 0 {
-                let moved = (exponent - 896) * 0x80_0000 + fraction / 0x2000_0000;
-                let pattern = (sign + moved) as u32;
-                return Narrowed32::Pattern(pattern);
-            }
-            return Narrowed32::None;
-        }
-        if rest == 0x7FF0_0000_0000_0000 {
-            let pattern = (sign + 0x7F80_0000) as u32;
-            return Narrowed32::Pattern(pattern);
-        }
-        return Narrowed32::None;
+        let moved = (exponent - 896) * 0x80_0000 + fraction / 0x2000_0000;
+        return (fraction % 0x2000_0000 == 0).then_some((sign + moved) as u32);
     }
     if 873 < exponent {
         let significand = 0x10_0000_0000_0000 + fraction;
         let down = 926 - exponent;
         let kept = significand >> down;
-        if kept << down == significand {
-            let pattern = (sign + kept) as u32;
-            return Narrowed32::Pattern(pattern);
-        }
-        return Narrowed32::None;
+        return (kept << down == significand).then_some((sign + kept) as u32);
     }
-    if rest == 0 {
-        let pattern = sign as u32;
-        return Narrowed32::Pattern(pattern);
-    }
-    Narrowed32::None
+    (rest == 0).then_some(sign as u32)
 }
 
 // The float of a pattern; every NaN's pattern gives the one NaN.

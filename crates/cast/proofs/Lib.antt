@@ -1,12 +1,7 @@
 pub mod Places
-pub mod Words
 pub mod Ranges
 pub mod Arms
-pub mod Wides
-pub mod Zeros
-pub mod Equality
-pub mod Between
+pub mod Conversions
 pub mod Exact
-pub mod Floats
 pub mod Halves
 pub mod Made

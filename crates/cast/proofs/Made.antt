@@ -1,6 +1,7 @@
 -- What `From` makes: an integer of the value it was given, at a variant of the least width that holds the value at all.
 -- So a cast of it goes by value: it is refused exactly if the value lies outside the target's range, and otherwise
 -- comes out as that value.
+use Rattle.std.specs.Prelude.{Err}
 use mathlib.Core.Path.{◌≡◌, refl, ◌∙◌, sym, subst}
 use mathlib.Core.Bool.{Bool, true, false, ◌&&◌, ◌||◌, and-false, false≢true}
 use mathlib.Core.Logic.{◌⊎◌, inl, inr}
@@ -15,7 +16,6 @@ use Rattle.types.specs.declared.Integer.{Integer}
 use Rattle.types.specs.declared.Integer.TheVariants as I
 use Rattle.types.specs.declared.Refusal.{Refusal}
 use Rattle.types.specs.declared.Refusal.TheVariants as R
-use Rattle.types.specs.declared.AsU8.TheVariants as AsU8
 use Rattle.types.specs.Values.{value}
 use Rattle.cast.specs.Variants.{width, variant, in_range}
 use Rattle.cast.specs.Casts.{castable, cast, as_u8}
@@ -113,6 +113,6 @@ unfolding cast
 cast-from t v f g s w z h = rw (from-castable s w z h t v, from-value s w z h) refl
 
 -- "So I16(5) refuses `as_u8`": an integer that `From` did not make is cast by its variant
-pub by_variant : as_u8 (I.I16 (pos 5)) ≡ AsU8.Refused R.ImpreciseCastWouldLoseData
+pub by_variant : as_u8 (I.I16 (pos 5)) ≡ Err R.ImpreciseCastWouldLoseData
 unfolding cast
 by_variant = refl

@@ -1,3 +1,4 @@
 pub mod Variants
 pub mod Casts
+pub mod Conversions
 pub mod Froms

@@ -74,7 +74,3 @@ same_value (negsuc m) (negsuc n) = eqb m n
 unfoldable pub equal_integers : Integer → Integer → Bool
 equal_integers a b =
     same_sign (sign a) (sign b) && eqb (bytes (width a)) (bytes (width b)) && same_value (value a) (value b)
-
--- equal, and of that sign
-unfoldable pub equal_of : Sign → Integer → Integer → Bool
-equal_of s a b = same_sign (sign a) s && equal_integers a b

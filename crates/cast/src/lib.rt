@@ -2,138 +2,52 @@
 // 01, "Casts": each cast goes by variant, and refuses with 8 what its type does not hold.
 #![tactic(auto)]
 
-ghost use Rattle.std.specs.Prelude.{◌≡◌, ◌&&◌, eqb, pos};
+ghost use Rattle.std.specs.Prelude.{◌≡◌, ◌≤◌, pos};
 ghost use mir.Syntax.{signed, unsigned, w8, w16, w32, w64, w128};
 ghost use Rattle.types.specs.Values.{joined, joined_signed, wide_of};
-ghost use Rattle.cast.specs.Variants.{is_zero, equal_of, equal_integers};
+ghost use Rattle.cast.specs.Variants.{is_zero, equal_integers};
 ghost use Rattle.cast.specs.Froms.{from};
 ghost use Rattle.cast.specs.Casts.{as_i8, as_i16, as_i32, as_i64, as_i128, as_u8, as_u16, as_u32, as_u64, as_u128};
 ghost use Rattle.cast.specs.Casts.{kept_words, as_f32, as_f64, as_float};
+ghost use Rattle.cast.specs.Conversions.{Narrowed};
 
-use types::{
-    AsF32, AsF64, AsFloat, AsI8, AsI16, AsI32, AsI64, AsU8, AsU16, AsU32, AsU64, AsWide, Float,
-    Integer, Refusal, Wide,
-};
+use std::num::TryFromIntError;
+use types::{Float, Integer, Refusal, Wide};
 
 // Whether the value is 0.
 pub fn is_zero(x: Integer) -> bool
     ensures { result ≡ is_zero x }
 {
-    match x {
-        Integer::I8(value) => return value == 0,
-        Integer::I16(value) => return value == 0,
-        Integer::I32(value) => return value == 0,
-        Integer::I64(value) => return value == 0,
-        Integer::I128(value) => {
-            if value.hi == 0 {
-                return value.lo == 0;
-            }
-            return false;
-        }
-        Integer::U8(value) => return value == 0,
-        Integer::U16(value) => return value == 0,
-        Integer::U32(value) => return value == 0,
-        Integer::U64(value) => return value == 0,
-        Integer::U128(value) => {
-            if value.hi == 0 {
-                return value.lo == 0;
-            }
-            return false;
-        }
-    }
-}
-
-// Whether the words are the same.
-fn same_words(a: Wide, b: Wide) -> bool
-    ensures { result ≡ (eqb a.hi b.hi && eqb a.lo b.lo) }
-{
-    if a.hi == b.hi {
-        return a.lo == b.lo;
-    }
-    false
-}
-
-// Whether variant and value are the same, and signed.
-fn equal_signed(a: Integer, b: Integer) -> bool
-    ensures { result ≡ equal_of signed a b }
-{
-    match a {
-        Integer::I8(x) => match b {
-            Integer::I8(y) => return x == y,
-            _ => return false,
-        },
-        Integer::I16(x) => match b {
-            Integer::I16(y) => return x == y,
-            _ => return false,
-        },
-        Integer::I32(x) => match b {
-            Integer::I32(y) => return x == y,
-            _ => return false,
-        },
-        Integer::I64(x) => match b {
-            Integer::I64(y) => return x == y,
-            _ => return false,
-        },
-        Integer::I128(x) => match b {
-            Integer::I128(y) => return same_words(x, y),
-            _ => return false,
-        },
-        _ => return false,
-    }
-}
-
-// Whether variant and value are the same, and unsigned.
-fn equal_unsigned(a: Integer, b: Integer) -> bool
-    ensures { result ≡ equal_of unsigned a b }
-{
-    match a {
-        Integer::U8(x) => match b {
-            Integer::U8(y) => return x == y,
-            _ => return false,
-        },
-        Integer::U16(x) => match b {
-            Integer::U16(y) => return x == y,
-            _ => return false,
-        },
-        Integer::U32(x) => match b {
-            Integer::U32(y) => return x == y,
-            _ => return false,
-        },
-        Integer::U64(x) => match b {
-            Integer::U64(y) => return x == y,
-            _ => return false,
-        },
-        Integer::U128(x) => match b {
-            Integer::U128(y) => return same_words(x, y),
-            _ => return false,
-        },
-        _ => return false,
-    }
+    matches!(
+        x,
+        Integer::I8(0)
+            | Integer::I16(0)
+            | Integer::I32(0)
+            | Integer::I64(0)
+            | Integer::I128(Wide { lo: 0, hi: 0 })
+            | Integer::U8(0)
+            | Integer::U16(0)
+            | Integer::U32(0)
+            | Integer::U64(0)
+            | Integer::U128(Wide { lo: 0, hi: 0 })
+    )
 }
 
 // Whether variant and value are the same.
+#[tactic(auto, unfolding(crate::specs::Variants::equal_integers))]
 pub fn equal(a: Integer, b: Integer) -> bool
     ensures { result ≡ equal_integers a b }
 {
-    if equal_signed(a, b) {
-        return true;
-    }
-    equal_unsigned(a, b)
+    a == b
 }
 
 // The two words of a signed number.
 pub fn wide_of_i64(value: i64) -> Wide
     ensures { result ≡ wide_of value }
 {
-    if 0 <= value {
-        return Wide {
-            lo: value as u64,
-            hi: 0,
-        };
-    }
     Wide {
-        lo: !((!value) as u64),
-        hi: 0xFFFF_FFFF_FFFF_FFFF,
+        lo: value.cast_unsigned(),
+        hi: if value < 0 { u64::MAX } else { 0 },
     }
 }
 
@@ -145,442 +59,258 @@ pub fn wide_of_u64(value: u64) -> Wide
 }
 
 // The words of a value that is the same signed and unsigned: the top bit is clear.
-fn kept_words(value: Wide) -> AsWide
+fn kept_words(value: Wide) -> Result<Wide, Refusal>
     ensures { result ≡ kept_words value }
 {
-    if value.hi < 0x8000_0000_0000_0000 {
-        return AsWide::Value(value);
+    if value.hi < 1 << 63 {
+        Ok(value)
+    } else {
+        Err(Refusal::ImpreciseCastWouldLoseData)
     }
-    AsWide::Refused(Refusal::ImpreciseCastWouldLoseData)
+}
+
+// The value in a type of so many bytes, if that type holds it and the variant is no wider.
+#[tactic(auto, unfolding(crate::specs::Conversions::Narrowed))]
+fn narrowed<T, const BYTES: usize>(x: Integer) -> Option<T>
+where
+    T: TryFrom<i64, Error = TryFromIntError> + TryFrom<u64, Error = TryFromIntError> + Drop,
+    requires { (1 ≤ BYTES) × (BYTES ≤ 8) }
+    ensures { Narrowed ⟦<T as TryFrom<i64>>⟧.try_from_gives ⟦<T as TryFrom<u64>>⟧.try_from_gives BYTES x result }
+{
+    match x {
+        Integer::I8(value) => T::try_from(i64::from(value)).ok(),
+        Integer::U8(value) => T::try_from(u64::from(value)).ok(),
+        Integer::I16(value) if 2 <= BYTES => T::try_from(i64::from(value)).ok(),
+        Integer::U16(value) if 2 <= BYTES => T::try_from(u64::from(value)).ok(),
+        Integer::I32(value) if 4 <= BYTES => T::try_from(i64::from(value)).ok(),
+        Integer::U32(value) if 4 <= BYTES => T::try_from(u64::from(value)).ok(),
+        Integer::I64(value) if 8 <= BYTES => T::try_from(value).ok(),
+        Integer::U64(value) if 8 <= BYTES => T::try_from(value).ok(),
+        _ => None,
+    }
 }
 
 // The value as an i8, or refusal 8 if it does not fit.
-pub fn as_i8(x: Integer) -> AsI8
+#[tactic(auto, unfolding(crate::specs::Casts::cast, crate::specs::Conversions::Narrowed))]
+pub fn as_i8(x: Integer) -> Result<i8, Refusal>
     ensures { result ≡ as_i8 x }
 {
-    match x {
-        Integer::I8(value) => return AsI8::Value(value),
-        Integer::U8(value) => {
-            if value <= 0x7F {
-                return AsI8::Value(value as i8);
-            }
-            return AsI8::Refused(Refusal::ImpreciseCastWouldLoseData);
-        }
-        Integer::I16(_)
-        | Integer::U16(_)
-        | Integer::I32(_)
-        | Integer::U32(_)
-        | Integer::I64(_)
-        | Integer::U64(_)
-        | Integer::I128(_)
-        | Integer::U128(_) => return AsI8::Refused(Refusal::ImpreciseCastWouldLoseData),
-    }
-}
-
-// The value as a u8, or refusal 8 if it does not fit.
-pub fn as_u8(x: Integer) -> AsU8
-    ensures { result ≡ as_u8 x }
-{
-    match x {
-        Integer::U8(value) => return AsU8::Value(value),
-        Integer::I8(value) => {
-            if 0 <= value {
-                return AsU8::Value(value as u8);
-            }
-            return AsU8::Refused(Refusal::ImpreciseCastWouldLoseData);
-        }
-        Integer::I16(_)
-        | Integer::U16(_)
-        | Integer::I32(_)
-        | Integer::U32(_)
-        | Integer::I64(_)
-        | Integer::U64(_)
-        | Integer::I128(_)
-        | Integer::U128(_) => return AsU8::Refused(Refusal::ImpreciseCastWouldLoseData),
-    }
+    narrowed::<i8, 1>(x).ok_or(Refusal::ImpreciseCastWouldLoseData)
 }
 
 // The value as an i16, or refusal 8 if it does not fit.
-pub fn as_i16(x: Integer) -> AsI16
+#[tactic(auto, unfolding(crate::specs::Casts::cast, crate::specs::Conversions::Narrowed))]
+pub fn as_i16(x: Integer) -> Result<i16, Refusal>
     ensures { result ≡ as_i16 x }
 {
-    match x {
-        Integer::I8(value) => return AsI16::Value(value as i16),
-        Integer::U8(value) => return AsI16::Value(value as i16),
-        Integer::I16(value) => return AsI16::Value(value),
-        Integer::U16(value) => {
-            if value <= 0x7FFF {
-                return AsI16::Value(value as i16);
-            }
-            return AsI16::Refused(Refusal::ImpreciseCastWouldLoseData);
-        }
-        Integer::I32(_)
-        | Integer::U32(_)
-        | Integer::I64(_)
-        | Integer::U64(_)
-        | Integer::I128(_)
-        | Integer::U128(_) => return AsI16::Refused(Refusal::ImpreciseCastWouldLoseData),
-    }
-}
-
-// The value as a u16, or refusal 8 if it does not fit.
-pub fn as_u16(x: Integer) -> AsU16
-    ensures { result ≡ as_u16 x }
-{
-    match x {
-        Integer::I8(value) => {
-            if 0 <= value {
-                return AsU16::Value(value as u16);
-            }
-            return AsU16::Refused(Refusal::ImpreciseCastWouldLoseData);
-        }
-        Integer::U8(value) => return AsU16::Value(value as u16),
-        Integer::U16(value) => return AsU16::Value(value),
-        Integer::I16(value) => {
-            if 0 <= value {
-                return AsU16::Value(value as u16);
-            }
-            return AsU16::Refused(Refusal::ImpreciseCastWouldLoseData);
-        }
-        Integer::I32(_)
-        | Integer::U32(_)
-        | Integer::I64(_)
-        | Integer::U64(_)
-        | Integer::I128(_)
-        | Integer::U128(_) => return AsU16::Refused(Refusal::ImpreciseCastWouldLoseData),
-    }
+    narrowed::<i16, 2>(x).ok_or(Refusal::ImpreciseCastWouldLoseData)
 }
 
 // The value as an i32, or refusal 8 if it does not fit.
-pub fn as_i32(x: Integer) -> AsI32
+#[tactic(auto, unfolding(crate::specs::Casts::cast, crate::specs::Conversions::Narrowed))]
+pub fn as_i32(x: Integer) -> Result<i32, Refusal>
     ensures { result ≡ as_i32 x }
 {
-    match x {
-        Integer::I8(value) => return AsI32::Value(value as i32),
-        Integer::U8(value) => return AsI32::Value(value as i32),
-        Integer::I16(value) => return AsI32::Value(value as i32),
-        Integer::U16(value) => return AsI32::Value(value as i32),
-        Integer::I32(value) => return AsI32::Value(value),
-        Integer::U32(value) => {
-            if value <= 0x7FFF_FFFF {
-                return AsI32::Value(value as i32);
-            }
-            return AsI32::Refused(Refusal::ImpreciseCastWouldLoseData);
-        }
-        Integer::I64(_) | Integer::U64(_) | Integer::I128(_) | Integer::U128(_) =>
-            return AsI32::Refused(Refusal::ImpreciseCastWouldLoseData),
-    }
-}
-
-// The value as a u32, or refusal 8 if it does not fit.
-pub fn as_u32(x: Integer) -> AsU32
-    ensures { result ≡ as_u32 x }
-{
-    match x {
-        Integer::I8(value) => {
-            if 0 <= value {
-                return AsU32::Value(value as u32);
-            }
-            return AsU32::Refused(Refusal::ImpreciseCastWouldLoseData);
-        }
-        Integer::U8(value) => return AsU32::Value(value as u32),
-        Integer::I16(value) => {
-            if 0 <= value {
-                return AsU32::Value(value as u32);
-            }
-            return AsU32::Refused(Refusal::ImpreciseCastWouldLoseData);
-        }
-        Integer::U16(value) => return AsU32::Value(value as u32),
-        Integer::U32(value) => return AsU32::Value(value),
-        Integer::I32(value) => {
-            if 0 <= value {
-                return AsU32::Value(value as u32);
-            }
-            return AsU32::Refused(Refusal::ImpreciseCastWouldLoseData);
-        }
-        Integer::I64(_) | Integer::U64(_) | Integer::I128(_) | Integer::U128(_) =>
-            return AsU32::Refused(Refusal::ImpreciseCastWouldLoseData),
-    }
+    narrowed::<i32, 4>(x).ok_or(Refusal::ImpreciseCastWouldLoseData)
 }
 
 // The value as an i64, or refusal 8 if it does not fit.
-pub fn as_i64(x: Integer) -> AsI64
+#[tactic(auto, unfolding(crate::specs::Casts::cast, crate::specs::Conversions::Narrowed))]
+pub fn as_i64(x: Integer) -> Result<i64, Refusal>
     ensures { result ≡ as_i64 x }
 {
-    match x {
-        Integer::I8(value) => return AsI64::Value(value as i64),
-        Integer::U8(value) => return AsI64::Value(value as i64),
-        Integer::I16(value) => return AsI64::Value(value as i64),
-        Integer::U16(value) => return AsI64::Value(value as i64),
-        Integer::I32(value) => return AsI64::Value(value as i64),
-        Integer::U32(value) => return AsI64::Value(value as i64),
-        Integer::I64(value) => return AsI64::Value(value),
-        Integer::U64(value) => {
-            if value <= 0x7FFF_FFFF_FFFF_FFFF {
-                return AsI64::Value(value as i64);
-            }
-            return AsI64::Refused(Refusal::ImpreciseCastWouldLoseData);
-        }
-        Integer::I128(_) | Integer::U128(_) => return AsI64::Refused(
-            Refusal::ImpreciseCastWouldLoseData,
-        ),
-    }
+    narrowed::<i64, 8>(x).ok_or(Refusal::ImpreciseCastWouldLoseData)
+}
+
+// The value as a u8, or refusal 8 if it does not fit.
+#[tactic(auto, unfolding(crate::specs::Casts::cast, crate::specs::Conversions::Narrowed))]
+pub fn as_u8(x: Integer) -> Result<u8, Refusal>
+    ensures { result ≡ as_u8 x }
+{
+    narrowed::<u8, 1>(x).ok_or(Refusal::ImpreciseCastWouldLoseData)
+}
+
+// The value as a u16, or refusal 8 if it does not fit.
+#[tactic(auto, unfolding(crate::specs::Casts::cast, crate::specs::Conversions::Narrowed))]
+pub fn as_u16(x: Integer) -> Result<u16, Refusal>
+    ensures { result ≡ as_u16 x }
+{
+    narrowed::<u16, 2>(x).ok_or(Refusal::ImpreciseCastWouldLoseData)
+}
+
+// The value as a u32, or refusal 8 if it does not fit.
+#[tactic(auto, unfolding(crate::specs::Casts::cast, crate::specs::Conversions::Narrowed))]
+pub fn as_u32(x: Integer) -> Result<u32, Refusal>
+    ensures { result ≡ as_u32 x }
+{
+    narrowed::<u32, 4>(x).ok_or(Refusal::ImpreciseCastWouldLoseData)
 }
 
 // The value as a u64, or refusal 8 if it does not fit.
-pub fn as_u64(x: Integer) -> AsU64
+#[tactic(auto, unfolding(crate::specs::Casts::cast, crate::specs::Conversions::Narrowed))]
+pub fn as_u64(x: Integer) -> Result<u64, Refusal>
     ensures { result ≡ as_u64 x }
 {
-    match x {
-        Integer::I8(value) => {
-            if 0 <= value {
-                return AsU64::Value(value as u64);
-            }
-            return AsU64::Refused(Refusal::ImpreciseCastWouldLoseData);
-        }
-        Integer::U8(value) => return AsU64::Value(value as u64),
-        Integer::I16(value) => {
-            if 0 <= value {
-                return AsU64::Value(value as u64);
-            }
-            return AsU64::Refused(Refusal::ImpreciseCastWouldLoseData);
-        }
-        Integer::U16(value) => return AsU64::Value(value as u64),
-        Integer::I32(value) => {
-            if 0 <= value {
-                return AsU64::Value(value as u64);
-            }
-            return AsU64::Refused(Refusal::ImpreciseCastWouldLoseData);
-        }
-        Integer::U32(value) => return AsU64::Value(value as u64),
-        Integer::U64(value) => return AsU64::Value(value),
-        Integer::I64(value) => {
-            if 0 <= value {
-                return AsU64::Value(value as u64);
-            }
-            return AsU64::Refused(Refusal::ImpreciseCastWouldLoseData);
-        }
-        Integer::I128(_) | Integer::U128(_) => return AsU64::Refused(
-            Refusal::ImpreciseCastWouldLoseData,
-        ),
-    }
+    narrowed::<u64, 8>(x).ok_or(Refusal::ImpreciseCastWouldLoseData)
 }
 
 // The value as an i128, or refusal 8 if it does not fit.
-pub fn as_i128(x: Integer) -> AsWide
+#[tactic(auto, unfolding(crate::specs::Casts::cast, crate::specs::Conversions::Narrowed))]
+pub fn as_i128(x: Integer) -> Result<Wide, Refusal>
     ensures { result ≡ as_i128 x }
 {
     match x {
-        Integer::I8(value) => return AsWide::Value(wide_of_i64(value as i64)),
-        Integer::U8(value) => return AsWide::Value(wide_of_u64(value as u64)),
-        Integer::I16(value) => return AsWide::Value(wide_of_i64(value as i64)),
-        Integer::U16(value) => return AsWide::Value(wide_of_u64(value as u64)),
-        Integer::I32(value) => return AsWide::Value(wide_of_i64(value as i64)),
-        Integer::U32(value) => return AsWide::Value(wide_of_u64(value as u64)),
-        Integer::I64(value) => return AsWide::Value(wide_of_i64(value)),
-        Integer::U64(value) => return AsWide::Value(wide_of_u64(value)),
-        Integer::I128(value) => return AsWide::Value(value),
-        Integer::U128(value) => return kept_words(value),
+        Integer::I128(value) => Ok(value),
+        Integer::U128(value) => kept_words(value),
+        Integer::U64(value) => Ok(wide_of_u64(value)),
+        _ => narrowed::<i64, 8>(x)
+            .map(wide_of_i64)
+            .ok_or(Refusal::ImpreciseCastWouldLoseData),
     }
 }
 
 // The value as a u128, or refusal 8 if it does not fit.
-pub fn as_u128(x: Integer) -> AsWide
+#[tactic(auto, unfolding(crate::specs::Casts::cast, crate::specs::Conversions::Narrowed))]
+pub fn as_u128(x: Integer) -> Result<Wide, Refusal>
     ensures { result ≡ as_u128 x }
 {
     match x {
-        Integer::I8(value) => {
-            if 0 <= value {
-                return AsWide::Value(wide_of_u64(value as u64));
-            }
-            return AsWide::Refused(Refusal::ImpreciseCastWouldLoseData);
-        }
-        Integer::U8(value) => return AsWide::Value(wide_of_u64(value as u64)),
-        Integer::I16(value) => {
-            if 0 <= value {
-                return AsWide::Value(wide_of_u64(value as u64));
-            }
-            return AsWide::Refused(Refusal::ImpreciseCastWouldLoseData);
-        }
-        Integer::U16(value) => return AsWide::Value(wide_of_u64(value as u64)),
-        Integer::I32(value) => {
-            if 0 <= value {
-                return AsWide::Value(wide_of_u64(value as u64));
-            }
-            return AsWide::Refused(Refusal::ImpreciseCastWouldLoseData);
-        }
-        Integer::U32(value) => return AsWide::Value(wide_of_u64(value as u64)),
-        Integer::I64(value) => {
-            if 0 <= value {
-                return AsWide::Value(wide_of_u64(value as u64));
-            }
-            return AsWide::Refused(Refusal::ImpreciseCastWouldLoseData);
-        }
-        Integer::U64(value) => return AsWide::Value(wide_of_u64(value)),
-        Integer::U128(value) => return AsWide::Value(value),
-        Integer::I128(value) => return kept_words(value),
+        Integer::U128(value) => Ok(value),
+        Integer::I128(value) => kept_words(value),
+        _ => narrowed::<u64, 8>(x)
+            .map(wide_of_u64)
+            .ok_or(Refusal::ImpreciseCastWouldLoseData),
     }
 }
 
-// The value as an f32, or refusal 8 if it is not one of the whole numbers that an f32 counts without a gap.
-pub fn as_f32(x: Integer) -> AsF32
+// The value as an f32, or refusal 8 if it is not one of the whole numbers that an f32 counts without a gap. It stands
+// beside `as_f64` in full: no trait of the language casts such a number to either float, so one for both is no plainer.
+pub fn as_f32(x: Integer) -> Result<f32, Refusal>
     ensures { result ≡ as_f32 x }
 {
-    match as_i32(x) {
-        AsI32::Value(int) => {
-            if int < -16777216 {
-                return AsF32::Refused(Refusal::ImpreciseCastWouldLoseData);
-            }
-            if int <= 16777215 {
-                return AsF32::Value(int as f32);
-            }
-            return AsF32::Refused(Refusal::ImpreciseCastWouldLoseData);
-        }
-        AsI32::Refused(refusal) => return AsF32::Refused(refusal),
+    let int = as_i32(x)?;
+    if (-16777216..=16777215).contains(&int) {
+        Ok(int as f32)
+    } else {
+        Err(Refusal::ImpreciseCastWouldLoseData)
     }
 }
 
 // The value as an f64, or refusal 8 if it is not one of the whole numbers that an f64 counts without a gap.
-pub fn as_f64(x: Integer) -> AsF64
+pub fn as_f64(x: Integer) -> Result<f64, Refusal>
     ensures { result ≡ as_f64 x }
 {
-    match as_i64(x) {
-        AsI64::Value(int) => {
-            if int < -9007199254740992 {
-                return AsF64::Refused(Refusal::ImpreciseCastWouldLoseData);
-            }
-            if int <= 9007199254740991 {
-                return AsF64::Value(int as f64);
-            }
-            return AsF64::Refused(Refusal::ImpreciseCastWouldLoseData);
-        }
-        AsI64::Refused(refusal) => return AsF64::Refused(refusal),
+    let int = as_i64(x)?;
+    if (-9007199254740992..=9007199254740991).contains(&int) {
+        Ok(int as f64)
+    } else {
+        Err(Refusal::ImpreciseCastWouldLoseData)
     }
 }
 
 // The value as an f32, or else as an f64.
-pub fn as_float(x: Integer) -> AsFloat
+pub fn as_float(x: Integer) -> Result<Float, Refusal>
     ensures { result ≡ as_float x }
 {
-    match as_f32(x) {
-        AsF32::Value(float) => return AsFloat::Value(Float::F32(float)),
-        AsF32::Refused(_) => match as_f64(x) {
-            AsF64::Value(float) => return AsFloat::Value(Float::F64(float)),
-            AsF64::Refused(refusal) => return AsFloat::Refused(refusal),
-        },
-    }
+    as_f32(x)
+        .map(Float::F32)
+        .or_else(|_| as_f64(x).map(Float::F64))
 }
 
-// `From`: the narrowest variant that holds the value. An unsigned value tries the unsigned type of half the width.
+// `From`: the narrowest variant that holds the value. An unsigned value tries the unsigned type of half the width. They
+// are plain functions, since `impl From` for `Integer` may stand in `types` alone; each tries another type and variant,
+// so that one for all would take both as parameters.
+#[tactic(auto, unfolding(crate::specs::Froms::from))]
 pub fn from_u8(byte: u8) -> Integer
     ensures { result ≡ from unsigned w8 (pos byte) }
 {
     Integer::U8(byte)
 }
 
+#[tactic(auto, unfolding(crate::specs::Froms::from))]
 pub fn from_u16(value: u16) -> Integer
     ensures { result ≡ from unsigned w16 (pos value) }
 {
-    if value <= 0xFF {
-        return from_u8(value as u8);
-    }
-    Integer::U16(value)
+    u8::try_from(value).map_or(Integer::U16(value), from_u8)
 }
 
+#[tactic(auto, unfolding(crate::specs::Froms::from))]
 pub fn from_u32(value: u32) -> Integer
     ensures { result ≡ from unsigned w32 (pos value) }
 {
-    if value <= 0xFFFF {
-        return from_u16(value as u16);
-    }
-    Integer::U32(value)
+    u16::try_from(value).map_or(Integer::U32(value), from_u16)
 }
 
+#[tactic(auto, unfolding(crate::specs::Froms::from))]
 pub fn from_u64(value: u64) -> Integer
     ensures { result ≡ from unsigned w64 (pos value) }
 {
-    if value <= 0xFFFF_FFFF {
-        return from_u32(value as u32);
-    }
-    Integer::U64(value)
+    u32::try_from(value).map_or(Integer::U64(value), from_u32)
 }
 
+#[tactic(auto, unfolding(crate::specs::Froms::from))]
 pub fn from_u128(value: Wide) -> Integer
     ensures { result ≡ from unsigned w128 (pos (joined value)) }
 {
     if value.hi == 0 {
-        return from_u64(value.lo);
+        from_u64(value.lo)
+    } else {
+        Integer::U128(value)
     }
-    Integer::U128(value)
 }
 
 // A signed value tries the signed type of half the width, and then the unsigned one.
+#[tactic(auto, unfolding(crate::specs::Froms::from))]
 pub fn from_i8(byte: i8) -> Integer
     ensures { result ≡ from signed w8 byte }
 {
     Integer::I8(byte)
 }
 
+#[tactic(auto, unfolding(crate::specs::Froms::from))]
 pub fn from_i16(value: i16) -> Integer
     ensures { result ≡ from signed w16 value }
 {
-    if value < -128 {
-        return Integer::I16(value);
+    if let Ok(byte) = i8::try_from(value) {
+        from_i8(byte)
+    } else {
+        u8::try_from(value).map_or(Integer::I16(value), from_u8)
     }
-    if value <= 127 {
-        return from_i8(value as i8);
-    }
-    if value <= 255 {
-        return from_u8(value as u8);
-    }
-    Integer::I16(value)
 }
 
+#[tactic(auto, unfolding(crate::specs::Froms::from))]
 pub fn from_i32(value: i32) -> Integer
     ensures { result ≡ from signed w32 value }
 {
-    if value < -32768 {
-        return Integer::I32(value);
+    if let Ok(half) = i16::try_from(value) {
+        from_i16(half)
+    } else {
+        u16::try_from(value).map_or(Integer::I32(value), from_u16)
     }
-    if value <= 32767 {
-        return from_i16(value as i16);
-    }
-    if value <= 65535 {
-        return from_u16(value as u16);
-    }
-    Integer::I32(value)
 }
 
+#[tactic(auto, unfolding(crate::specs::Froms::from))]
 pub fn from_i64(value: i64) -> Integer
     ensures { result ≡ from signed w64 value }
 {
-    if value < -2147483648 {
-        return Integer::I64(value);
+    if let Ok(half) = i32::try_from(value) {
+        from_i32(half)
+    } else {
+        u32::try_from(value).map_or(Integer::I64(value), from_u32)
     }
-    if value <= 2147483647 {
-        return from_i32(value as i32);
-    }
-    if value <= 4294967295 {
-        return from_u32(value as u32);
-    }
-    Integer::I64(value)
 }
 
-// The words of a value that fits an i64 are its own and its sign's.
+// A value fits an i64 if its words are those of its low one.
+#[tactic(auto, unfolding(crate::specs::Froms::from))]
 pub fn from_i128(value: Wide) -> Integer
     ensures { result ≡ from signed w128 (joined_signed value) }
 {
-    if value.hi == 0 {
-        if value.lo <= 0x7FFF_FFFF_FFFF_FFFF {
-            return from_i64(value.lo as i64);
-        }
-        return from_u64(value.lo);
+    let low = value.lo.cast_signed();
+    if wide_of_i64(low) == value {
+        from_i64(low)
+    } else if value.hi == 0 {
+        from_u64(value.lo)
+    } else {
+        Integer::I128(value)
     }
-    if value.hi == 0xFFFF_FFFF_FFFF_FFFF {
-        if value.lo <= 0x7FFF_FFFF_FFFF_FFFF {
-            return Integer::I128(value);
-        }
-        return from_i64(!((0xFFFF_FFFF_FFFF_FFFF - value.lo) as i64));
-    }
-    Integer::I128(value)
 }

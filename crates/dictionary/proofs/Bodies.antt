@@ -1,5 +1,6 @@
 -- What a body does in a step, at each of its ends; and that it is what `read_atom` does there, with the value
 -- forgotten.
+use Rattle.std.specs.Prelude.{Result, Ok, Err}
 use mathlib.Core.Path.{◌≡◌, refl, ◌∙◌, sym, ap}
 use mathlib.Core.Bool.{Bool, true, false, false≢true}
 use mathlib.Core.List.{List, []}
@@ -8,10 +9,12 @@ use native.Mathlib.Omega.{arith}
 use lib.Dec.{ltb, leb}
 use lib.ListN.{length}
 use borrow.Author.Tests.{lt-ltb, le-ltb, le-leb, lt-leb, ltb-true, ltb-false, leb-true, leb-false}
+use Rattle.types.specs.Answers.{AtomAnswer, Skipped}
 use Rattle.types.specs.Forms.{count_of, known, body_length, charge_of, is_string}
 use Rattle.types.specs.Choice.{pick}
 use Rattle.types.specs.Counters.{places_of}
 use Rattle.types.specs.Kinds.{special_from}
+use Rattle.types.proofs.Answers.{same_ok}
 use Rattle.types.proofs.Specials.{special_below, special_above}
 use Rattle.types.specs.declared.Way.TheVariants as W
 use Rattle.types.specs.declared.Kind.{Kind}
@@ -22,12 +25,6 @@ use Rattle.types.specs.declared.Budget.{Budget}
 use Rattle.types.specs.declared.Refusal.{Refusal}
 use Rattle.types.specs.declared.Refusal.TheVariants as R
 use Rattle.types.specs.declared.Special.{Special}
-use Rattle.types.specs.declared.SpecialAnswer.{SpecialAnswer}
-use Rattle.types.specs.declared.SpecialAnswer.TheVariants as SA
-use Rattle.types.specs.declared.BudgetAnswer.TheVariants as BA
-use Rattle.types.specs.declared.AtomAnswer.{AtomAnswer}
-use Rattle.types.specs.declared.Skipped.{Skipped}
-use Rattle.types.specs.declared.Skipped.TheVariants as SK
 use Rattle.reader.specs.Strings.{lent_string}
 use Rattle.integer.specs.Integers.{integer_body}
 use Rattle.float.specs.Floats.{float_body}
@@ -37,20 +34,20 @@ use Rattle.dictionary.specs.Steps.{forgotten, body_past, body_after, lean}
 
 -- a budget that a charge exceeds, and one that it does not
 over_at : (b : Budget) (c : ℕ) (r : Refusal) (t : Bool) → ltb b.0 c ≡ t →
-    pick t (BA.Refused R.TooManyBytesRead) (BA.Left (record { 0 = b.0 - c })) ≡ BA.Refused r → b.0 < c
+    pick {X = Result Budget Refusal} t (Err R.TooManyBytesRead) (Ok (record { 0 = b.0 - c })) ≡ Err r → b.0 < c
 over_at b c r true e h = ltb-true b.0 c e
 over_at b c r false e h = absurd (false≢true cc)
 
-pub over : (b : Budget) (c : ℕ) (r : Refusal) → budget_after b c ≡ BA.Refused r → b.0 < c
+pub over : (b : Budget) (c : ℕ) (r : Refusal) → budget_after b c ≡ Err r → b.0 < c
 over b c r h = over_at b c r (ltb b.0 c) refl h
 
 afforded_at : (b : Budget) (c : ℕ) (rest : Budget) (t : Bool) → ltb b.0 c ≡ t →
-    pick t (BA.Refused R.TooManyBytesRead) (BA.Left (record { 0 = b.0 - c })) ≡ BA.Left rest →
+    pick {X = Result Budget Refusal} t (Err R.TooManyBytesRead) (Ok (record { 0 = b.0 - c })) ≡ Ok rest →
     (c ≤ b.0) × (record { 0 = b.0 - c } ≡ rest)
 afforded_at b c rest true e h = absurd (false≢true cc)
 afforded_at b c rest false e h = (ltb-false b.0 c e, cc)
 
-pub afforded : (b : Budget) (c : ℕ) (rest : Budget) → budget_after b c ≡ BA.Left rest →
+pub afforded : (b : Budget) (c : ℕ) (rest : Budget) → budget_after b c ≡ Ok rest →
     (c ≤ b.0) × (record { 0 = b.0 - c } ≡ rest)
 afforded b c rest h = afforded_at b c rest (ltb b.0 c) refl h
 
@@ -58,26 +55,25 @@ afforded b c rest h = afforded_at b c rest (ltb b.0 c) refl h
 module _ (size first at left : ℕ) (string : Bool) (len charge : ℕ) (why : Refusal) where
   pub past_over : (allowed : Bool) → left < charge →
       body_past size first at left string len charge allowed why
-      ≡ SK.Refused (record { 0 = at }) (record { 0 = left }) R.TooManyBytesRead
+      ≡ Err (record { 0 = at }, record { 0 = left }, R.TooManyBytesRead)
   unfolding body_past
   past_over allowed h = simp (lt-ltb left charge h)
 
   pub past_unknown : charge ≤ left →
       body_past size first at left string len charge false why
-      ≡ SK.Refused (record { 0 = at }) (record { 0 = left - charge }) why
+      ≡ Err (record { 0 = at }, record { 0 = left - charge }, why)
   unfolding body_past
   past_unknown h = simp (le-ltb left charge h)
 
   pub past_eof : charge ≤ left → size < at + len →
       body_past size first at left string len charge true why
-      ≡ SK.Refused (record { 0 = size }) (record { 0 = left - charge }) R.Eof
+      ≡ Err (record { 0 = size }, record { 0 = left - charge }, R.Eof)
   unfolding body_past
   past_eof h k = simp (le-ltb left charge h, lt-leb (at + len) size k)
 
   pub past_whole : charge ≤ left → at + len ≤ size →
       body_past size first at left string len charge true why
-      ≡ SK.Past (record { 0 = at + len }) (record { 0 = left - charge })
-      (places_of (record { 0 = first }) (record { 0 = at }) (record { 0 = at + len })) string
+      ≡ Ok (record { 0 = at + len }, record { 0 = left - charge }, places_of (record { 0 = first }) (record { 0 = at }) (record { 0 = at + len }), string)
   unfolding body_past
   past_whole h k = simp (le-ltb left charge h, le-leb (at + len) size k)
 
@@ -85,7 +81,7 @@ module _ (size first at left : ℕ) (string : Bool) (len charge : ℕ) (why : Re
 module _ (size : ℕ) (kind : Kind) (arg : ℕ) (first at : Place) (left : Budget) where
   pub header_only : (k : Kind) → kind ≡ k → known k arg ≡ true → body_length k arg ≡ 0 → charge_of k arg ≡ 0 →
       is_string k ≡ false → at.0 ≤ size →
-      SK.Past at left (places_of first at at) false ≡ body_after size kind arg first.0 at.0 left.0
+      Ok (at, left, places_of first at at, false) ≡ body_after size kind arg first.0 at.0 left.0
   unfolding body_past
   header_only k e Known-is none free no_string within =
       let a : at.0 + 0 ≡ at.0 = omega arith in
@@ -94,14 +90,14 @@ module _ (size : ℕ) (kind : Kind) (arg : ℕ) (first at : Place) (left : Budge
       (simp (le-ltb left.0 0 (omega arith), a, b, le-leb at.0 size within))
 
   -- a special, by what its argument answers
-  module _ (k : kind ≡ K.Special) (got : SpecialAnswer) (g : got ≡ special_from arg) where
-    pub special_past : (special : Special) → got ≡ SA.Known special → at.0 ≤ size →
-        SK.Past at left (places_of first at at) false ≡ body_after size kind arg first.0 at.0 left.0
+  module _ (k : kind ≡ K.Special) (got : Result Special Refusal) (g : got ≡ special_from arg) where
+    pub special_past : (special : Special) → got ≡ Ok special → at.0 ≤ size →
+        Ok (at, left, places_of first at at, false) ≡ body_after size kind arg first.0 at.0 left.0
     special_past special e within =
         header_only K.Special k (special_below arg special (sym g ∙ e)) refl refl refl within
 
-    pub special_other : (why : Refusal) → got ≡ SA.Refused why →
-        SK.Refused at left why ≡ body_after size kind arg first.0 at.0 left.0
+    pub special_other : (why : Refusal) → got ≡ Err why →
+        Err (at, left, why) ≡ body_after size kind arg first.0 at.0 left.0
     unfolding body_past
     special_other why e =
         let above = special_above arg why (sym g ∙ e) in
@@ -113,14 +109,13 @@ module _ (s : List ℕ) (arg : ℕ) (first next : Place) (budget : Budget) where
   abbrev ended : Kind → Budget → Skipped
   ended kind rest =
       pick (leb (next.0 + body_length kind arg) (length s))
-      (SK.Past (record { 0 = next.0 + body_length kind arg }) rest
-      (places_of first next (record { 0 = next.0 + body_length kind arg })) (is_string kind))
-      (SK.Refused (record { 0 = length s }) rest R.Eof)
+      (Ok (record { 0 = next.0 + body_length kind arg }, rest, places_of first next (record { 0 = next.0 + body_length kind arg }), is_string kind))
+      (Err (record { 0 = length s }, rest, R.Eof))
 
   module _ (rest : Budget) where
     -- an atom of its header only
     header_taken_lem : (kind : Kind) → body_length kind arg ≡ 0 → is_string kind ≡ false → next.0 ≤ length s →
-        SK.Past next rest (places_of first next next) false ≡ ended kind rest
+        Ok (next, rest, places_of first next next, false) ≡ ended kind rest
     header_taken_lem kind none no_string h =
         let a : next.0 + 0 ≡ next.0 = omega arith in
         rw (none, no_string) (simp (a, le-leb next.0 (length s) h))
@@ -209,7 +204,7 @@ pub record Passed (size first at left : ℕ) (string : Bool) (len charge : ℕ) 
 module _ (size first at left : ℕ) (string : Bool) (len charge : ℕ) (why : Refusal) (place : Place) (rest : Budget)
     (places : Places) (t : Bool) where
   passed_at : (allowed u v : Bool) → ltb left charge ≡ u → leb (at + len) size ≡ v →
-      body_past size first at left string len charge allowed why ≡ SK.Past place rest places t →
+      body_past size first at left string len charge allowed why ≡ Ok (place, rest, places, t) →
       Passed size first at left string len charge allowed place.0 rest.0 places t
   passed_at allowed true v a b e =
       let x = sym e ∙ past_over size first at left string len charge why allowed (ltb-true left charge a) in
@@ -225,20 +220,18 @@ module _ (size first at left : ℕ) (string : Bool) (len charge : ℕ) (why : Re
   passed_at true false true a b e =
       let h = ltb-false left charge a in
       let k = leb-true (at + len) size b in
-      let x = sym e ∙ past_whole size first at left string len charge why h k in
-      let p : place ≡ record { 0 = at + len } = cc in
-      let q : rest ≡ record { 0 = left - charge } = cc in
+      let x = same_ok (sym e ∙ past_whole size first at left string len charge why h k) in
       record {
         afforded = h;
         is_known = refl;
         is_whole = k;
-        ends = ap (λ (y : Place). y.0) p;
-        leaves = ap (λ (y : Budget). y.0) q;
-        stands = cc;
-        told = cc;
+        ends = ap (λ (y : Place × Budget × Places × Bool). y.0.0) x;
+        leaves = ap (λ (y : Place × Budget × Places × Bool). y.1.0) x;
+        stands = ap (λ (y : Place × Budget × Places × Bool). y.2) x;
+        told = ap (λ (y : Place × Budget × Places × Bool). y.3) x;
       }
 
   pub passed : (allowed : Bool) →
-      body_past size first at left string len charge allowed why ≡ SK.Past place rest places t →
+      body_past size first at left string len charge allowed why ≡ Ok (place, rest, places, t) →
       Passed size first at left string len charge allowed place.0 rest.0 places t
   passed allowed e = passed_at allowed _ _ refl refl e

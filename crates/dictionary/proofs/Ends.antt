@@ -1,19 +1,18 @@
 -- The ends of the step: what each of its functions has in hand at a return, and what it answers there.
+use Rattle.std.specs.Prelude.{Result, Ok, Err}
 use mathlib.Core.Path.{◌≡◌, refl, ◌∙◌, sym, ap, subst}
 use mathlib.Core.Bool.{Bool, true, false}
-use mathlib.Core.List.{List, [], ◌∷◌}
+use mathlib.Core.List.{List}
 use Prim.Native.Nat.{ℕ, ◌+◌, ◌-◌, ◌≤◌, ◌<◌}
 use native.Mathlib.Omega.{arith}
 use borrow.Author.Rules.{rules}
-use borrow.Author.Tests.{lt-ltb, eq-eqb, ne_eqb}
+use borrow.Author.Tests.{lt-ltb}
 use lib.ListN.{length}
-use types.Run.{OneOf, miss}
-use denote.Enum.Declared.{tag_of}
+use Rattle.dictionary.specs.Steps.{Step}
 use Rattle.types.specs.Counters.{place_in, places_of}
 use Rattle.types.specs.Kinds.{special_from}
 use Rattle.types.specs.Forms.{allowed_count, allowed_float, count_of, number_charge, unsupported, known, body_length}
 use Rattle.types.specs.Forms.{charge_of, is_string, unknown}
-use Rattle.types.specs.contracts.Kind.{the_type}
 use Rattle.types.specs.declared.Way.TheVariants as W
 use Rattle.types.specs.declared.Kind.{Kind}
 use Rattle.types.specs.declared.Kind.TheVariants as K
@@ -21,42 +20,34 @@ use Rattle.types.specs.declared.Place.{Place}
 use Rattle.types.specs.declared.Places.{Places}
 use Rattle.types.specs.declared.Budget.{Budget}
 use Rattle.types.specs.declared.Special.{Special}
-use Rattle.types.specs.declared.SpecialAnswer.{SpecialAnswer}
-use Rattle.types.specs.declared.SpecialAnswer.TheVariants as SA
 use Rattle.types.specs.declared.Refusal.{Refusal}
 use Rattle.types.specs.declared.Refusal.TheVariants as R
-use Rattle.types.specs.declared.BudgetAnswer.{BudgetAnswer}
-use Rattle.types.specs.declared.BudgetAnswer.TheVariants as BA
-use Rattle.types.specs.declared.HeaderAnswer.{HeaderAnswer}
-use Rattle.types.specs.declared.HeaderAnswer.TheVariants as H
-use Rattle.types.specs.declared.TallyAnswer.TheVariants as TA
-use Rattle.types.specs.declared.Skipped.TheVariants as SK
 use Rattle.header.specs.Header.{header_read}
 use Rattle.header.proofs.Places.{header_place, header_place_lem}
 use Rattle.reader.specs.Strings.{start_of}
 use Rattle.reader.proofs.Strings.{start_within}
 use Rattle.atom.specs.Charges.{budget_after}
-use Rattle.atom.specs.Atoms.{atom_read, first_place}
-use Rattle.dictionary.specs.declared.Step.{Step}
-use Rattle.dictionary.specs.declared.Step.TheVariants as ST
-use Rattle.dictionary.specs.Steps.{skipped, lean, stepped, body_step, step_after, last_of}
+use Rattle.atom.specs.Atoms.{with_budget, atom_read, first_place}
+use Rattle.atom.proofs.Ends.{with_budget_ok, with_budget_err}
+use Rattle.types.proofs.Arms.{OfIntegers, two_kinds, OfHeaders, three_kinds}
+use Rattle.dictionary.specs.Steps.{skipped, past, lean, stepped, body_step, step_after}
 use Rattle.dictionary.proofs.Bodies.{over, afforded, past_over, past_unknown, past_eof, past_whole, header_only, special_past, special_other}
 use Rattle.dictionary.proofs.Bodies.{after_header, any_first}
 use Rattle.dictionary.proofs.Steps.{told_past, told_refused}
 
 -- a body whose charge was judged: it exceeds the budget
 module _ (size : ℕ) (at : Place) (left : Budget) (string : Bool) (len price charge : ℕ) (allowed : Bool)
-    (why : Refusal) (paid : BudgetAnswer) (priced : charge ≡ price) (p : paid ≡ budget_after left charge) where
-  pub body_over_budget : (r : Refusal) → paid ≡ BA.Refused r →
-      ST.Refused at left R.TooManyBytesRead ≡ body_step size at.0 left.0 string len price allowed why
+    (why : Refusal) (paid : Result Budget Refusal) (priced : charge ≡ price) (p : paid ≡ budget_after left charge) where
+  pub body_over_budget : (r : Refusal) → paid ≡ Err r →
+      Err (at, left, R.TooManyBytesRead) ≡ body_step size at.0 left.0 string len price allowed why
   body_over_budget r e =
       cc (ap lean (past_over size at.0 at.0 left.0 string len charge why allowed
       (over left charge r (sym p ∙ e))))
 
-  module _ (rest : Budget) (l : paid ≡ BA.Left rest) where
+  module _ (rest : Budget) (l : paid ≡ Ok rest) where
     -- it does not, and the atom is not known
     pub body_unknown : (refusal : Refusal) → refusal ≡ why → allowed ≡ false →
-        ST.Refused at rest refusal ≡ body_step size at.0 left.0 string len price allowed why
+        Err (at, rest, refusal) ≡ body_step size at.0 left.0 string len price allowed why
     body_unknown refusal w f =
         let b = afforded left charge rest (sym p ∙ l) in
         cc (b.1, ap lean (past_unknown size at.0 at.0 left.0 string len charge why b.0))
@@ -64,13 +55,13 @@ module _ (size : ℕ) (at : Place) (left : Budget) (string : Bool) (len price ch
     -- it is: its bytes are cut, or whole
     module _ (k : allowed ≡ true) (inside : at.0 ≤ size) where
       pub body_cut : size - at.0 < len →
-          ST.Refused (record { 0 = size }) rest R.Eof ≡ body_step size at.0 left.0 string len price allowed why
+          Err (record { 0 = size }, rest, R.Eof) ≡ body_step size at.0 left.0 string len price allowed why
       body_cut h =
           let b = afforded left charge rest (sym p ∙ l) in
           cc (b.1, ap lean (past_eof size at.0 at.0 left.0 string len charge why b.0 (omega arith)))
 
       pub body_whole : len ≤ size - at.0 →
-          ST.Past (record { 0 = at.0 + len }) rest at string
+          Ok (record { 0 = at.0 + len }, rest, at, string)
           ≡ body_step size at.0 left.0 string len price allowed why
       body_whole h =
           let b = afforded left charge rest (sym p ∙ l) in
@@ -79,40 +70,42 @@ module _ (size : ℕ) (at : Place) (left : Budget) (string : Bool) (len price ch
 pub ruleset body_ends = (body_over_budget, body_unknown, body_cut, body_whole, rules)
 
 -- Int and UInt, by the tag that led there
-integral : (size at left : ℕ) (kind : Kind) (arg : ℕ) → OneOf (1 ∷ 2 ∷ []) (tag_of the_type kind) →
+integral : (size at left : ℕ) (kind : Kind) (arg : ℕ) → OfIntegers kind →
     body_step size at left false (count_of arg) (number_charge (count_of arg)) (allowed_count (count_of arg))
     (unsupported kind (count_of arg))
     ≡ step_after size kind arg at left
-integral size at left K.Int arg h = refl
-integral size at left K.UInt arg h = refl
-integral size at left K.Special arg h = absurd (miss (1 ∷ 2 ∷ []) 0 tt h)
-integral size at left K.Float arg h = absurd (miss (1 ∷ 2 ∷ []) 3 tt h)
-integral size at left K.Sequence arg h = absurd (miss (1 ∷ 2 ∷ []) 4 tt h)
-integral size at left K.Map arg h = absurd (miss (1 ∷ 2 ∷ []) 5 tt h)
-integral size at left K.Symbol arg h = absurd (miss (1 ∷ 2 ∷ []) 6 tt h)
-integral size at left K.Bytes arg h = absurd (miss (1 ∷ 2 ∷ []) 7 tt h)
+integral size at left kind arg h =
+    two_kinds (λ k. body_step size at left false (count_of arg) (number_charge (count_of arg))
+    (allowed_count (count_of arg)) (unsupported k (count_of arg))
+    ≡ step_after size k arg at left) refl refl kind h
 
 -- an atom of its header only: a sequence, a map, a symbol, a special that is known; and one that is not
 module _ (size : ℕ) (kind : Kind) (arg : ℕ) (at : Place) (left : Budget) where
-  pub header_step : (k : Kind) → kind ≡ k → known k arg ≡ true → body_length k arg ≡ 0 → charge_of k arg ≡ 0 →
-      is_string k ≡ false → at.0 ≤ size → ST.Past at left at false ≡ step_after size kind arg at.0 left.0
+  header_step : (k : Kind) → kind ≡ k → known k arg ≡ true → body_length k arg ≡ 0 → charge_of k arg ≡ 0 →
+      is_string k ≡ false → at.0 ≤ size → past at left at false ≡ step_after size kind arg at.0 left.0
   header_step k e Known-is none free no_string within =
       ap lean (header_only size kind arg at at left k e Known-is none free no_string within)
 
-  module _ (k : kind ≡ K.Special) (got : SpecialAnswer) (g : got ≡ special_from arg) where
-    pub special_step : (special : Special) → got ≡ SA.Known special → at.0 ≤ size →
-        ST.Past at left at false ≡ step_after size kind arg at.0 left.0
+  pub header_alone : OfHeaders kind → at.0 ≤ size → past at left at false ≡ step_after size kind arg at.0 left.0
+  header_alone h within =
+      three_kinds (λ k. kind ≡ k → past at left at false ≡ step_after size kind arg at.0 left.0)
+      (λ e. header_step K.Sequence e refl refl refl refl within) (λ e. header_step K.Map e refl refl refl refl within)
+      (λ e. header_step K.Symbol e refl refl refl refl within) kind h refl
+
+  module _ (k : kind ≡ K.Special) (got : Result Special Refusal) (g : got ≡ special_from arg) where
+    pub special_step : (special : Special) → got ≡ Ok special → at.0 ≤ size →
+        Ok (at, left, at, false) ≡ step_after size kind arg at.0 left.0
     special_step special e within = ap lean (special_past size kind arg at at left k got g special e within)
 
-    pub special_stop : (why : Refusal) → got ≡ SA.Refused why →
-        ST.Refused at left why ≡ step_after size kind arg at.0 left.0
+    pub special_stop : (why : Refusal) → got ≡ Err why →
+        Err (at, left, why) ≡ step_after size kind arg at.0 left.0
     special_stop why e = ap lean (special_other size kind arg at at left k got g why e)
 
 -- a body of bytes, by its header's kind: what `skip_number` and `skip_bytes` answer of it
 module _ (size : ℕ) (kind : Kind) (arg at left : ℕ) (r : Step) where
   module _ (count : ℕ) (allowed : Bool) (counted : count ≡ count_of arg)
       (e : r ≡ body_step size at left false count (number_charge count) allowed (unsupported kind count)) where
-    pub integer_body_lem : OneOf (1 ∷ 2 ∷ []) (tag_of the_type kind) → allowed ≡ allowed_count count →
+    pub integer_body_lem : OfIntegers kind → allowed ≡ allowed_count count →
         r ≡ step_after size kind arg at left
     integer_body_lem k a = cc (integral size at left kind arg k)
 
@@ -124,16 +117,19 @@ module _ (size : ℕ) (kind : Kind) (arg at left : ℕ) (r : Step) where
   string_body k e = rw k e
 
 pub ruleset kind_ends =
-    (header_step, special_step, special_stop, integer_body_lem, float_body_lem, string_body, lt-ltb, rules)
+    (header_alone, special_step, special_stop, integer_body_lem, float_body_lem, string_body, lt-ltb, rules)
 
 -- an atom, once its header is read
-module _ (s : List ℕ) (place : ℕ) (budget : Budget) (header : HeaderAnswer)
-    (read : header ≡ header_read W.ExactLent s place) where
-  module _ (next : Place) (kind : Kind) (arg : ℕ) (e : header ≡ H.Read next kind arg) where
+module _ (s : List ℕ) (place : ℕ) (budget : Budget) (header : Result (Place × Kind × ℕ) (Place × Budget × Refusal))
+    (read : header ≡ with_budget budget (header_read W.ExactLent s place)) where
+  module _ (next : Place) (kind : Kind) (arg : ℕ) (e : header ≡ Ok (next, kind, arg)) where
+    taken : header_read W.ExactLent s place ≡ Ok (next, kind, arg)
+    taken = with_budget_ok budget (header_read W.ExactLent s place) (next, kind, arg) (sym read ∙ e)
+
     -- the body is within the source
     pub body_within : next.0 ≤ length s
     body_within =
-        subst (λ (n : ℕ). n ≤ length s) (ap header_place (sym read ∙ e))
+        subst (λ (n : ℕ). n ≤ length s) (ap header_place taken)
         (header_place_lem W.ExactLent s (start_of s place) (start_within s place)).1
 
     -- what the body does
@@ -143,47 +139,25 @@ module _ (s : List ℕ) (place : ℕ) (budget : Budget) (header : HeaderAnswer)
         let same = any_first (length s) next.0 (place_in (length s) place) next.0 budget.0 (is_string kind)
         (body_length kind arg) (charge_of kind arg) (unknown kind arg) (known kind arg) in
         let x = ap lean (after_header s arg (first_place s place) next budget kind body_within) in
-        cc
+        cc (taken)
 
   -- the header is refused
-  pub header_refused : (end : Place) (why : Refusal) → header ≡ H.Refused end why →
-      ST.Refused end budget why ≡ stepped s place budget
+  pub header_refused : (w : Place × Budget × Refusal) → header ≡ Err w → Err w ≡ stepped s place budget
   unfolding stepped skipped atom_read
-  header_refused end why e = cc
+  header_refused w e =
+      let refused = with_budget_err budget (header_read W.ExactLent s place) w (sym read ∙ e) in
+      cc (refused.0, refused.1)
 
 pub ruleset atom_ends = (body_within, atom_body, header_refused, rules)
 
 -- the ends of `skip_atom`, by what the step told
 module _ (s : List ℕ) (place : ℕ) (budget : Budget) (got : Step) (g : got ≡ stepped s place budget) where
   pub skip_past : (after : Place) (rest : Budget) (body : Place) (t : Bool) (first : ℕ) (places : Places) →
-      places ≡ places_of (record { 0 = first }) body after → got ≡ ST.Past after rest body t →
-      first ≡ place_in (length s) place → SK.Past after rest places t ≡ skipped s place budget
+      places ≡ places_of (record { 0 = first }) body after → got ≡ Ok (after, rest, body, t) →
+      first ≡ place_in (length s) place → Ok (after, rest, places, t) ≡ skipped s place budget
   skip_past after rest body t first places p e f = cc (told_past s place budget after rest body t (sym g ∙ e))
 
-  pub skip_refused : (end : Place) (rest : Budget) (why : Refusal) → got ≡ ST.Refused end rest why →
-      SK.Refused end rest why ≡ skipped s place budget
-  skip_refused end rest why e = sym (told_refused s place budget end rest why (sym g ∙ e))
+  pub skip_refused : (w : Place × Budget × Refusal) → got ≡ Err w → Err w ≡ skipped s place budget
+  skip_refused w e = sym (told_refused s place budget w.0 w.1 w.2 (sym g ∙ e))
 
 pub ruleset skip_ends = (skip_past, skip_refused, rules)
-
--- the ends of `last_places`: no atom was read, or the last one's header tells where its body starts
-module _ (s : List ℕ) (first at : Place) (places : Places) where
-  pub last_none : places ≡ places_of first first first → first.0 ≡ at.0 → places ≡ last_of s first at
-  last_none p e = p ∙ simp (eq-eqb _ _ e)
-
-  module _ (apart : first.0 ≡ at.0 → ⊥) (header : HeaderAnswer) (read : header ≡ header_read W.ExactLent s first.0)
-      (body : Place) (p : places ≡ places_of first body at) where
-    pub last_read : (kind : Kind) (arg : ℕ) → header ≡ H.Read body kind arg → places ≡ last_of s first at
-    last_read kind arg e = rw (ne_eqb _ _ apart, ← read, e) p
-
-    pub last_refused : (why : Refusal) → header ≡ H.Refused body why → places ≡ last_of s first at
-    last_refused why e = rw (ne_eqb _ _ apart, ← read, e) p
-
-pub ruleset last_ends = (last_none, last_read, last_refused, rules)
-
--- a tally that stops there
-pub tally_stopped : (last made : Places) (why : Refusal) (at : Place) → made ≡ last →
-    TA.Stopped made why at ≡ TA.Stopped last why at
-tally_stopped last made why at e = ap (λ (x : Places). TA.Stopped x why at) e
-
-pub ruleset stopped_ends = (tally_stopped, rules)

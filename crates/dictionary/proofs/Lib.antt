@@ -1,4 +1,3 @@
-pub mod Lettered
 pub mod Bodies
 pub mod Ends
 pub mod Steps

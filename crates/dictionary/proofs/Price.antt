@@ -1,6 +1,7 @@
 -- THE PRICE OF A FILE IS EXACT (demand 3): what the tally and the run answer of a list of whole, known atoms; and what
 -- the tally answers of every other input. It rests on the step at one atom, by induction over the list: one law of a
 -- walk for both.
+use Rattle.std.specs.Prelude.{Ok, Err}
 use mathlib.Core.Path.{◌≡◌, refl, ◌∙◌, sym, ap, subst}
 use mathlib.Core.Bool.{Bool, true, false, false≢true}
 use mathlib.Core.List.{List, [], ◌∷◌, ◌++◌, append_assoc, append-nil}
@@ -11,13 +12,13 @@ use lib.Dec.{ltb, leb}
 use lib.ListN.{length, take, drop, length-append, length-drop, take-append-drop}
 use lib.Seq.{drop-append_seam, length-take-le}
 use borrow.Author.Tests.{le-ltb, ltb-true, ltb-false, leb-true, leb-false}
+use Rattle.types.specs.Answers.{run_of}
 use Rattle.types.specs.Forms.{known, charge_of, unknown}
 use Rattle.types.specs.Counters.{no_places}
 use Rattle.types.specs.declared.Place.{Place}
 use Rattle.types.specs.declared.Places.{Places}
 use Rattle.types.specs.declared.Refusal.{Refusal}
 use Rattle.types.specs.declared.Refusal.TheVariants as R
-use Rattle.types.specs.declared.Ran.TheVariants as RN
 use Rattle.types.specs.declared.Tallied.{Tallied}
 use Rattle.types.specs.declared.TallyAnswer.TheVariants as TA
 use Rattle.header.specs.Header.{header_kind, header_argument, header_length}
@@ -222,8 +223,12 @@ module _ (s front rest : List ℕ) (atoms : List (List ℕ)) (budget : ℕ) (w :
   pub run_barred : (why : Refusal) (past charge : ℕ) → 1 ≤ length rest →
       Barred rest (budget - total price atoms) why past charge →
       run_all s (record { 0 = budget })
-      ≡ RN.Stopped (record { 0 = length front + past }) (record { 0 = budget - total price atoms - charge })
-      (length atoms) (last_places atoms) why (record { 0 = length front })
+      ≡ Err (
+        run_of (record { 0 = length front + past }) (record { 0 = budget - total price atoms - charge })
+            (length atoms) (last_places atoms),
+        why,
+        record { 0 = length front },
+      )
   run_barred why past charge some bad =
       let n = its_size in
       let there : drop (length front) s ≡ rest = ap (drop (length front)) e ∙ drop-append_seam front rest in
@@ -235,7 +240,8 @@ module _ (s front rest : List ℕ) (atoms : List (List ℕ)) (budget : ℕ) (w :
 -- 2: A RUN WITH A BUDGET OF AT LEAST C reads them all, and leaves the budget less C
 pub run_priced : (s : List ℕ) (atoms : List (List ℕ)) (budget : ℕ) → Atoms s atoms → total price atoms ≤ budget →
     run_all s (record { 0 = budget })
-    ≡ RN.Done (record { 0 = length s }) (record { 0 = budget - total price atoms }) (length atoms) (last_places atoms)
+    ≡ Ok (run_of (record { 0 = length s }) (record { 0 = budget - total price atoms }) (length atoms)
+    (last_places atoms))
 run_priced s atoms budget w c =
     run_over s s [] atoms budget w (sym (append-nil s)) c
     ∙ run_end s (suc (length s - length atoms)) (length s - length atoms) (length s)
@@ -335,9 +341,12 @@ module _ (l : List ℕ) (budget : ℕ) (atoms : List (List ℕ)) (p : Parted l b
 
 pub run_short : (s : List ℕ) (atoms : List (List ℕ)) (budget : ℕ) → Atoms s atoms → budget < total price atoms →
     (p : Passing budget atoms) × (run_all s (record { 0 = budget })
-    ≡ RN.Stopped (record { 0 = total length p.before + header_length p.atom })
-    (record { 0 = budget - total price p.before }) (length p.before) (last_places p.before) R.TooManyBytesRead
-    (record { 0 = total length p.before }))
+    ≡ Err (
+      run_of (record { 0 = total length p.before + header_length p.atom })
+          (record { 0 = budget - total price p.before }) (length p.before) (last_places p.before),
+      R.TooManyBytesRead,
+      record { 0 = total length p.before },
+    ))
 run_short s atoms budget w c =
     let p = parted w budget c in
     let q = p.passing in
@@ -490,19 +499,21 @@ never_five s last place e = never_five_at s last place (ltb most_bytes (length s
 agree_made : (s : List ℕ) (atoms : List (List ℕ)) (t : Tallied) (last : Places) (budget : ℕ) → Atoms s atoms →
     priced atoms ≡ t → last_places atoms ≡ last → t.charge ≤ budget →
     run_all s (record { 0 = budget })
-    ≡ RN.Done (record { 0 = length s }) (record { 0 = budget - t.charge }) t.atoms last
+    ≡ Ok (run_of (record { 0 = length s }) (record { 0 = budget - t.charge }) t.atoms last)
 agree_made s atoms t last budget w e l h =
     let c : total price atoms ≡ t.charge = ap (λ (x : Tallied). x.charge) e in
     let n : length atoms ≡ t.atoms = ap (λ (x : Tallied). x.atoms) e in
     run_priced s atoms budget w (rw c h)
-    ∙ ap (λ (x : ℕ). RN.Done (record { 0 = length s }) (record { 0 = budget - x }) (length atoms) (last_places atoms)) c
-    ∙ ap (λ (x : ℕ). RN.Done (record { 0 = length s }) (record { 0 = budget - t.charge }) x (last_places atoms)) n
-    ∙ ap (RN.Done (record { 0 = length s }) (record { 0 = budget - t.charge }) t.atoms) l
+    ∙ ap (λ (x : ℕ). Ok (run_of (record { 0 = length s }) (record { 0 = budget - x }) (length atoms)
+    (last_places atoms))) c
+    ∙ ap (λ (x : ℕ). Ok (run_of (record { 0 = length s }) (record { 0 = budget - t.charge }) x
+    (last_places atoms))) n
+    ∙ ap (λ (x : Places). Ok (run_of (record { 0 = length s }) (record { 0 = budget - t.charge }) t.atoms x)) l
 
 agree_at : (s : List ℕ) (t : Tallied) (last : Places) (budget : ℕ) (l : Bool) → ltb most_bytes (length s) ≡ l →
     tally_all s ≡ TA.Done last t → t.charge ≤ budget →
     run_all s (record { 0 = budget })
-    ≡ RN.Done (record { 0 = length s }) (record { 0 = budget - t.charge }) t.atoms last
+    ≡ Ok (run_of (record { 0 = length s }) (record { 0 = budget - t.charge }) t.atoms last)
 agree_at s t last budget true h e c =
     let x : TA.Refused no_places R.TooLong ≡ TA.Done last t = rw h at e in absurd (false≢true cc)
 agree_at s t last budget false h e c =
@@ -513,7 +524,7 @@ agree_at s t last budget false h e c =
   where
     made : (m : Made s) → tally_all s ≡ TA.Done (last_places m.atoms) (priced m.atoms) →
         run_all s (record { 0 = budget })
-        ≡ RN.Done (record { 0 = length s }) (record { 0 = budget - t.charge }) t.atoms last
+        ≡ Ok (run_of (record { 0 = length s }) (record { 0 = budget - t.charge }) t.atoms last)
     made m p =
         let x = sym p ∙ e in
         let a : priced m.atoms ≡ t = cc in
@@ -527,7 +538,7 @@ agree_at s t last budget false h e c =
 pub agree : (s : List ℕ) (t : Tallied) (last : Places) (budget : ℕ) → tally_all s ≡ TA.Done last t →
     t.charge ≤ budget →
     run_all s (record { 0 = budget })
-    ≡ RN.Done (record { 0 = length s }) (record { 0 = budget - t.charge }) t.atoms last
+    ≡ Ok (run_of (record { 0 = length s }) (record { 0 = budget - t.charge }) t.atoms last)
 agree s t last budget e c = agree_at s t last budget (ltb most_bytes (length s)) refl e c
 
 -- THE LAST ATOM IS THE LAST: it starts after all that stand before it

@@ -1,4 +1,5 @@
 -- The run's loop: what holds before each turn, what a turn keeps of it, and what the run answers at its ends.
+use Rattle.std.specs.Prelude.{Ok, Err}
 use mathlib.Core.Path.{◌≡◌, ◌∙◌, sym, ap}
 use mathlib.Core.Bool.{Bool}
 use mathlib.Core.List.{List}
@@ -6,16 +7,13 @@ use Prim.Native.Nat.{ℕ, ◌+◌, ◌≤◌, ◌<◌}
 use native.Mathlib.Omega.{arith}
 use borrow.Author.Rules.{rules}
 use lib.ListN.{length}
+use Rattle.dictionary.specs.Steps.{Step, past, short_past}
+use Rattle.types.specs.Answers.{Ran, run_of}
 use Rattle.types.specs.Counters.{no_places}
 use Rattle.types.specs.declared.Place.{Place}
 use Rattle.types.specs.declared.Places.{Places}
 use Rattle.types.specs.declared.Budget.{Budget}
 use Rattle.types.specs.declared.Refusal.{Refusal}
-use Rattle.dictionary.specs.declared.Step.{Step}
-use Rattle.dictionary.specs.declared.Step.TheVariants as ST
-use Rattle.types.specs.declared.Ran.{Ran}
-use Rattle.types.specs.declared.Ran.TheVariants as RN
-use Rattle.dictionary.specs.declared.Short.TheVariants as SH
 use Rattle.dictionary.specs.Steps.{stepped, short_step, last_of}
 use Rattle.dictionary.specs.Runs.{run_from, run_all}
 use Rattle.dictionary.proofs.Steps.{Past, past_last, told_refused, Told, told, by_step, step_less}
@@ -56,29 +54,29 @@ turns s at left place rest places t h e all atoms last i =
     (walk_on running s _ atoms at.0 _ i left place rest places t e (holding rest.0 (atoms + 1) places)
     (λ fuel later k. run_on s fuel later at.0 left atoms last k place rest places t h e))
 
-pub short_turn : Told short_step SH.Past Turns
-short_turn = told short_step SH.Past by_first Turns turns
+pub short_turn : Told short_step short_past Turns
+short_turn = told short_step short_past by_first Turns turns
 
-pub turn : Told stepped ST.Past Turns
-turn = told stepped ST.Past by_step Turns turns
+pub turn : Told stepped past Turns
+turn = told stepped past by_step Turns turns
 
 module _ (s : List ℕ) (all : Budget) (atoms : ℕ) (at : Place) (left : Budget) (last : Places)
     (i : Running s all atoms at.0 left.0 last)
   where
     -- refused by the step
     pub stops : (r : Step) (places : Places) (place : Place) (rest : Budget) (why : Refusal) → places ≡ last →
-        at.0 < length s → r ≡ stepped s at.0 left → r ≡ ST.Refused place rest why →
-        RN.Stopped place rest atoms places why at ≡ run_all s all
+        at.0 < length s → r ≡ stepped s at.0 left → r ≡ Err (place, rest, why) →
+        Err (run_of place rest atoms places, why, at) ≡ run_all s all
     stops r places place rest why e h q p =
-        ap (λ (x : Places). RN.Stopped place rest atoms x why at) e
+        ap (λ (x : Places). Err (run_of place rest atoms x, why, at)) e
         ∙ walk_answers running s _ atoms at.0 _ i _
         (λ fuel later k. run_stop s fuel later at.0 left atoms last k place rest why h
         (told_refused s at.0 left place rest why (sym q ∙ p)))
 
     -- the end of the file
-    pub run_ends : (places : Places) → places ≡ last → length s ≤ at.0 → RN.Done at left atoms places ≡ run_all s all
+    pub run_ends : (places : Places) → places ≡ last → length s ≤ at.0 → Ok (run_of at left atoms places) ≡ run_all s all
     run_ends places e h =
-        ap (RN.Done at left atoms) e
+        ap (λ (x : Places). Ok (run_of at left atoms x)) e
         ∙ walk_answers running s _ atoms at.0 _ i _
         (λ fuel later k. run_end s fuel later at.0 left atoms last k h)
 

@@ -1,4 +1,5 @@
 -- The atoms that the run and the tally pass by their first byte alone: what the step does at a header of one byte.
+use Rattle.std.specs.Prelude.{Result, Ok, Err, Some, None}
 use mathlib.Core.Path.{◌≡◌, refl, ◌∙◌, sym, ap}
 use mathlib.Core.Bool.{Bool, true, false, false≢true}
 use mathlib.Core.List.{List, ◌∷◌}
@@ -9,6 +10,7 @@ use lib.ListN.{length, drop, get_or}
 use lib.Seq.{drop-cons}
 use borrow.Author.Rules.{rules}
 use borrow.Author.Tests.{ltb-true, ltb-false, eqb-true, ne_eqb}
+use Rattle.dictionary.specs.Steps.{Short, Step, short_past}
 use Rattle.types.specs.Choice.{pick}
 use Rattle.types.specs.Kinds.{kind_from, kind_known}
 use Rattle.types.specs.Forms.{listed, allowed_count, number_charge, known, body_length, charge_of, is_string, unknown}
@@ -19,15 +21,9 @@ use Rattle.types.specs.declared.Places.{Places}
 use Rattle.types.specs.declared.Budget.{Budget}
 use Rattle.types.specs.declared.Refusal.{Refusal}
 use Rattle.types.specs.declared.Refusal.TheVariants as R
-use Rattle.types.specs.declared.BudgetAnswer.{BudgetAnswer}
-use Rattle.types.specs.declared.BudgetAnswer.TheVariants as BA
-use Rattle.dictionary.specs.declared.Step.{Step}
-use Rattle.dictionary.specs.declared.Step.TheVariants as ST
 use Rattle.header.specs.Header.{more_follow, header_kind, header_argument, header_length}
 use Rattle.header.proofs.Answers.{one_length, one_argument}
 use Rattle.atom.specs.Charges.{budget_after}
-use Rattle.dictionary.specs.declared.Short.{Short}
-use Rattle.dictionary.specs.declared.Short.TheVariants as SH
 use Rattle.dictionary.specs.Steps.{skipped, body_past, body_after, lean, stepped, body_step, past_alone, short_byte}
 use Rattle.dictionary.specs.Steps.{short_step}
 use Rattle.dictionary.proofs.Bodies.{over, afforded, past_over, past_eof, past_whole, any_first, passed}
@@ -38,7 +34,7 @@ use Rattle.dictionary.proofs.Steps.{starts, inside, falls, less}
 module _ (size : ℕ) (at : Place) (left : Budget) (string : Bool) (len charge : ℕ) where
   -- its bytes are cut: it is refused, for that or for its charge
   cut_at : (t : Bool) → ltb left.0 charge ≡ t → size < at.0 + 1 + len →
-      SH.Other ≡ past_alone (body_step size (at.0 + 1) left.0 string len charge true R.Eof)
+      None ≡ past_alone (body_step size (at.0 + 1) left.0 string len charge true R.Eof)
   cut_at true e h =
       cc (ap lean (past_over size (at.0 + 1) (at.0 + 1) left.0 string len charge R.Eof true
       (ltb-true left.0 charge e)))
@@ -48,19 +44,19 @@ module _ (size : ℕ) (at : Place) (left : Budget) (string : Bool) (len charge :
 
   module _ (within : at.0 < size) where
     pub short_cut : size - (at.0 + 1) < len →
-        SH.Other ≡ past_alone (body_step size (at.0 + 1) left.0 string len charge true R.Eof)
+        None ≡ past_alone (body_step size (at.0 + 1) left.0 string len charge true R.Eof)
     short_cut h = cut_at (ltb left.0 charge) refl (omega arith)
 
     -- they are there: its charge exceeds the budget, or does not
-    module _ (h : len ≤ size - (at.0 + 1)) (paid : BudgetAnswer) (p : paid ≡ budget_after left charge) where
-      pub short_dear : (r : Refusal) → paid ≡ BA.Refused r →
-          SH.Other ≡ past_alone (body_step size (at.0 + 1) left.0 string len charge true R.Eof)
+    module _ (h : len ≤ size - (at.0 + 1)) (paid : Result Budget Refusal) (p : paid ≡ budget_after left charge) where
+      pub short_dear : (r : Refusal) → paid ≡ Err r →
+          None ≡ past_alone (body_step size (at.0 + 1) left.0 string len charge true R.Eof)
       short_dear r e =
           cc (ap lean (past_over size (at.0 + 1) (at.0 + 1) left.0 string len charge R.Eof true
           (over left charge r (sym p ∙ e))))
 
-      pub short_whole : (rest : Budget) → paid ≡ BA.Left rest →
-          SH.Past (record { 0 = at.0 + 1 + len }) rest (record { 0 = at.0 + 1 }) string
+      pub short_whole : (rest : Budget) → paid ≡ Ok rest →
+          Some (record { 0 = at.0 + 1 + len }, rest, record { 0 = at.0 + 1 }, string)
           ≡ past_alone (body_step size (at.0 + 1) left.0 string len charge true R.Eof)
       short_whole rest e =
           let b = afforded left charge rest (sym p ∙ e) in
@@ -148,7 +144,7 @@ module _ (s : List ℕ) (at : ℕ) (left : Budget) (within : at < length s) wher
 
   -- any other
   pub not_short : (get_or s at 0 ≡ 0x40 → ⊥) → (get_or s at 0 / 16 ≡ 14 → ⊥) → (get_or s at 0 / 16 ≡ 8 → ⊥) →
-      SH.Other ≡ short_step s at left
+      None ≡ short_step s at left
   unfolding short_step
   not_short a b c = simp (ne_eqb (get_or s at 0) 0x40 a, ne_eqb (get_or s at 0 / 16) 14 b, ne_eqb (get_or s at 0 / 16) 8 c)
 
@@ -156,12 +152,12 @@ pub ruleset short_ends = (short_uint, short_string, short_sequence, not_short, r
 
 -- what was passed so, the step passes
 past_at : (place : Place) (rest : Budget) (body : Place) (t u : Bool) (step : Step) →
-    pick u (past_alone step) SH.Other ≡ SH.Past place rest body t → step ≡ ST.Past place rest body t
-past_at place rest body t true (ST.Past p b q v) e = cc
-past_at place rest body t true (ST.Refused p b r) e = absurd (false≢true cc)
+    pick u (past_alone step) None ≡ Some (place, rest, body, t) → step ≡ Ok (place, rest, body, t)
+past_at place rest body t true (Ok (p, b, q, v)) e = cc
+past_at place rest body t true (Err (p, b, r)) e = absurd (false≢true cc)
 past_at place rest body t false step e = absurd (false≢true cc)
 
-pub by_first : Telling short_step SH.Past
+pub by_first : Telling short_step short_past
 unfolding short_step
 by_first s at left place rest body t e = past_at place rest body t (short_byte (get_or s at 0)) (stepped s at left) e
 
@@ -174,17 +170,17 @@ one_byte b false false true e f g k = ap (λ (n : ℕ). eqb (n % 2) 1) (eqb-true
 one_byte b false false false e f g k = absurd (false≢true k)
 
 passed_first : (place : Place) (rest : Budget) (body : Place) (t u : Bool) (step : Step) →
-    pick u (past_alone step) SH.Other ≡ SH.Past place rest body t → u ≡ true
+    pick u (past_alone step) None ≡ Some (place, rest, body, t) → u ≡ true
 passed_first place rest body t true step e = refl
 passed_first place rest body t false step e = absurd (false≢true cc)
 
 module _ (s : List ℕ) (at : Place) (left : Budget) (r : Short) (place : Place) (rest : Budget) (body : Place)
     (t : Bool) where
-  first_byte_lem : short_step s at.0 left ≡ SH.Past place rest body t → short_byte (get_or s at.0 0) ≡ true
+  first_byte_lem : short_step s at.0 left ≡ Some (place, rest, body, t) → short_byte (get_or s at.0 0) ≡ true
   unfolding short_step
   first_byte_lem e = passed_first place rest body t (short_byte (get_or s at.0 0)) (stepped s at.0 left) e
 
-  pub short_alone : r ≡ short_step s at.0 left → r ≡ SH.Past place rest body t → at.0 < length s →
+  pub short_alone : r ≡ short_step s at.0 left → r ≡ Some (place, rest, body, t) → at.0 < length s →
       body.0 ≡ at.0 + 1
   short_alone q p h =
       let b = get_or s at.0 0 in
@@ -197,14 +193,14 @@ module _ (s : List ℕ) (at : Place) (left : Budget) (r : Short) (place : Place)
       ap (λ (y : Places). y.body.0) (passed _ _ _ _ _ _ _ _ place rest _ t _ x).stands
 
 -- so the loops have of it what they have of a step
-pub short_starts : Told short_step SH.Past Starts
-short_starts = told short_step SH.Past by_first Starts starts
+pub short_starts : Told short_step short_past Starts
+short_starts = told short_step short_past by_first Starts starts
 
-pub short_inside : Told short_step SH.Past Inside
-short_inside = told short_step SH.Past by_first Inside inside
+pub short_inside : Told short_step short_past Inside
+short_inside = told short_step short_past by_first Inside inside
 
-pub short_falls : Told short_step SH.Past Falls
-short_falls = told short_step SH.Past by_first Falls falls
+pub short_falls : Told short_step short_past Falls
+short_falls = told short_step short_past by_first Falls falls
 
-pub short_less : Told short_step SH.Past Less
-short_less = told short_step SH.Past by_first Less less
+pub short_less : Told short_step short_past Less
+short_less = told short_step short_past by_first Less less

@@ -1,5 +1,6 @@
 -- The step over a source: where the header is cut, and what follows it; it goes forward and stays within the source,
 -- the budget never rises, and what an atom costs is at most 4/3 of its body.
+use Rattle.std.specs.Prelude.{Ok, Err}
 use mathlib.Core.Path.{◌≡◌, refl, ◌∙◌, sym, ap}
 use mathlib.Core.Bool.{Bool, true, false, false≢true}
 use mathlib.Core.List.{List, []}
@@ -8,9 +9,11 @@ use native.Mathlib.Omega.{arith}
 use lib.Dec.{leb, eqb}
 use lib.ListN.{length, drop}
 use borrow.Author.Tests.{le-ltb, le-leb, lt-leb, leb-true, leb-false, eqb-true, ne_eqb}
+use Rattle.types.proofs.Answers.{same_ok}
+use Rattle.types.specs.Answers.{AtomAnswer, HeaderAnswer, Skipped}
 use Rattle.types.specs.Choice.{pick}
 use Rattle.types.specs.Counters.{places_of}
-use Rattle.types.specs.Forms.{count_of, number_charge, body_length, charge_of, is_string}
+use Rattle.types.specs.Forms.{count_of, number_charge, body_length, charge_of}
 use Rattle.types.specs.declared.Way.TheVariants as W
 use Rattle.types.specs.declared.Kind.{Kind}
 use Rattle.types.specs.declared.Kind.TheVariants as K
@@ -20,31 +23,24 @@ use Rattle.types.specs.declared.Places.{Places}
 use Rattle.types.specs.declared.Budget.{Budget}
 use Rattle.types.specs.declared.Refusal.{Refusal}
 use Rattle.types.specs.declared.Refusal.TheVariants as R
-use Rattle.types.specs.declared.AtomAnswer.{AtomAnswer}
-use Rattle.types.specs.declared.AtomAnswer.TheVariants as A
-use Rattle.types.specs.declared.HeaderAnswer.{HeaderAnswer}
-use Rattle.types.specs.declared.HeaderAnswer.TheVariants as H
-use Rattle.types.specs.declared.Skipped.{Skipped}
-use Rattle.types.specs.declared.Skipped.TheVariants as SK
 use Rattle.header.specs.Header.{header_from, header_read, header_kind, header_argument, header_length}
 use Rattle.header.proofs.Fewest.{length_bounds}
 use Rattle.atom.specs.Atoms.{atom_read, atom_from, atom_after, first_place}
 use Rattle.atom.proofs.Placed.{Placed, atom_placed}
-use Rattle.dictionary.specs.declared.Step.TheVariants as ST
-use Rattle.dictionary.specs.Steps.{forgotten, skipped, body_after, lean, stepped, header_end, last_of}
+use Rattle.dictionary.specs.Steps.{forgotten, skipped, body_after, lean, stepped, header_end, last_of, past}
 use Rattle.dictionary.specs.Runs.{unlimited}
 use Rattle.dictionary.proofs.Bodies.{after_header, Passed, passed}
 
 module _ (s : List ℕ) (at : ℕ) (within : at ≤ length s) (budget : Budget) where
   -- the header is cut: "4 Eof: end of slice", and the budget stays
   pub step_cut : length s < at + header_length (drop at s) →
-      skipped s at budget ≡ SK.Refused (record { 0 = length s }) budget R.Eof
+      skipped s at budget ≡ Err (record { 0 = length s }, budget, R.Eof)
   unfolding skipped atom_read header_from
   step_cut k = simp (le-ltb (length s) at within, lt-leb (at + header_length (drop at s)) (length s) k)
 
   header_whole : at + header_length (drop at s) ≤ length s →
       header_read W.ExactLent s at
-      ≡ H.Read (record { 0 = at + header_length (drop at s) }) (header_kind (drop at s)) (header_argument (drop at s))
+      ≡ Ok (record { 0 = at + header_length (drop at s) }, header_kind (drop at s), header_argument (drop at s))
   unfolding header_from
   header_whole k = simp (le-ltb (length s) at within, le-leb (at + header_length (drop at s)) (length s) k)
 
@@ -106,7 +102,7 @@ charge_word K.Bytes arg h = omega arith
 pub record Past (s : List ℕ) (at : ℕ) (budget : Budget) (place : Place) (rest : Budget) (places : Places)
     (string : Bool) : Type 0
   where
-    pub is : skipped s at budget ≡ SK.Past place rest places string
+    pub is : skipped s at budget ≡ Ok (place, rest, places, string)
 
 -- THE STEP GOES FORWARD: an atom takes a byte at least and never passes the end; the budget never rises
 pub record Forward (s : List ℕ) (at left place rest : ℕ) (places : Places) : Type 0 where
@@ -173,31 +169,32 @@ module _ (s : List ℕ) (at : ℕ) (within : at ≤ length s) (budget : Budget) 
 -- need not be told of them
 past_lean : (first : Place) (a : AtomAnswer) → Placed first a → (place : Place) (rest : Budget) (body : Place)
     (t : Bool) →
-    lean (forgotten a) ≡ ST.Past place rest body t → forgotten a ≡ SK.Past place rest (places_of first body place) t
-past_lean first (A.Read p b x) stand place rest body t e =
-    let u : p ≡ place = cc in
-    let v : b ≡ rest = cc in
-    let w : x.places.body ≡ body = cc in
-    let y : is_string x.kind ≡ t = cc in
+    lean (forgotten a) ≡ Ok (place, rest, body, t) → forgotten a ≡ Ok (place, rest, places_of first body place, t)
+past_lean first (Ok (p, b, x)) stand place rest body t e =
+    let z = same_ok e in
+    let u = ap (λ (y : Place × Budget × Place × Bool). y.0) z in
+    let v = ap (λ (y : Place × Budget × Place × Bool). y.1) z in
+    let w = ap (λ (y : Place × Budget × Place × Bool). y.2) z in
+    let y = ap (λ (y : Place × Budget × Place × Bool). y.3) z in
     cc
-past_lean first (A.Refused p b r) stand place rest body t e = absurd (false≢true cc)
+past_lean first (Err (p, b, r)) stand place rest body t e = absurd (false≢true cc)
 
-refused_lean : (k : Skipped) (place : Place) (rest : Budget) (why : Refusal) → lean k ≡ ST.Refused place rest why →
-    k ≡ SK.Refused place rest why
-refused_lean (SK.Past p b q v) place rest why e = absurd (false≢true cc)
-refused_lean (SK.Refused p b r) place rest why e = cc
+refused_lean : (k : Skipped) (place : Place) (rest : Budget) (why : Refusal) → lean k ≡ Err (place, rest, why) →
+    k ≡ Err (place, rest, why)
+refused_lean (Ok (p, b, q, v)) place rest why e = absurd (false≢true cc)
+refused_lean (Err (p, b, r)) place rest why e = cc
 
 module _ (s : List ℕ) (place : ℕ) (budget : Budget) where
   pub told_past : (after : Place) (rest : Budget) (body : Place) (t : Bool) →
-      stepped s place budget ≡ ST.Past after rest body t →
-      skipped s place budget ≡ SK.Past after rest (places_of (first_place s place) body after) t
+      stepped s place budget ≡ Ok (after, rest, body, t) →
+      skipped s place budget ≡ Ok (after, rest, places_of (first_place s place) body after, t)
   unfolding stepped skipped
   told_past after rest body t e =
       past_lean (first_place s place) (atom_read W.ExactLent s place budget [])
       (atom_placed W.ExactLent s place budget []) after rest body t e
 
   pub told_refused : (end : Place) (rest : Budget) (why : Refusal) →
-      stepped s place budget ≡ ST.Refused end rest why → skipped s place budget ≡ SK.Refused end rest why
+      stepped s place budget ≡ Err (end, rest, why) → skipped s place budget ≡ Err (end, rest, why)
   unfolding stepped
   told_refused end rest why e = refused_lean (skipped s place budget) end rest why e
 
@@ -213,7 +210,7 @@ Told {X} step past P =
 abbrev pub Telling : {X : Type 0} → (List ℕ → ℕ → Budget → X) → (Place → Budget → Place → Bool → X) → Type 0
 Telling step past =
     (s : List ℕ) (at : ℕ) (left : Budget) (place : Place) (rest : Budget) (body : Place) (t : Bool) →
-    step s at left ≡ past place rest body t → stepped s at left ≡ ST.Past place rest body t
+    step s at left ≡ past place rest body t → stepped s at left ≡ Ok (place, rest, body, t)
 
 pub told : {X : Type 0} (step : List ℕ → ℕ → Budget → X) (past : Place → Budget → Place → Bool → X) →
     Telling step past → (P : List ℕ → Place → Budget → Place → Budget → Places → Bool → Type 0) →
@@ -223,13 +220,13 @@ pub told : {X : Type 0} (step : List ℕ → ℕ → Budget → X) (past : Place
 told step past telling P f s at left r place rest body t q p h =
     f s at left place rest (places_of at body place) t h (record { is = all })
   where
-    all : skipped s at.0 left ≡ SK.Past place rest (places_of at body place) t
+    all : skipped s at.0 left ≡ Ok (place, rest, places_of at body place, t)
     all =
         told_past s at.0 left place rest body t (telling s at.0 left place rest body t (sym q ∙ p))
-        ∙ ap (λ (n : ℕ). SK.Past place rest (places_of (record { 0 = n }) body place) t)
+        ∙ ap (λ (n : ℕ). Ok (place, rest, places_of (record { 0 = n }) body place, t))
         (place_same (length s) at.0 (omega arith))
 
-pub by_step : Telling stepped ST.Past
+pub by_step : Telling stepped past
 by_step s at left place rest body t e = e
 
 -- the body starts before its end, and both are within the source; the budget never rises, and fewer bytes are left
@@ -268,17 +265,17 @@ module _ (s : List ℕ) (at : Place) (left : Budget) (place : Place) (rest : Bud
   pub less : Less s at left place rest places t
   less = let w = went in omega arith
 
-pub step_starts : Told stepped ST.Past Starts
-step_starts = told stepped ST.Past by_step Starts starts
+pub step_starts : Told stepped past Starts
+step_starts = told stepped past by_step Starts starts
 
-pub step_begins : Told stepped ST.Past Begins
-step_begins = told stepped ST.Past by_step Begins begins
+pub step_begins : Told stepped past Begins
+step_begins = told stepped past by_step Begins begins
 
-pub step_inside : Told stepped ST.Past Inside
-step_inside = told stepped ST.Past by_step Inside inside
+pub step_inside : Told stepped past Inside
+step_inside = told stepped past by_step Inside inside
 
-pub step_falls : Told stepped ST.Past Falls
-step_falls = told stepped ST.Past by_step Falls falls
+pub step_falls : Told stepped past Falls
+step_falls = told stepped past by_step Falls falls
 
-pub step_less : Told stepped ST.Past Less
-step_less = told stepped ST.Past by_step Less less
+pub step_less : Told stepped past Less
+step_less = told stepped past by_step Less less

@@ -1,32 +1,28 @@
 -- The tally's loop: what holds before each turn, what a turn keeps of it, and what the tally answers at its ends. The
 -- sums are bounded by the bytes passed, of which there are at most 16,777,216, so that none wraps.
+use Rattle.std.specs.Prelude.{Err, Some}
 use mathlib.Core.Path.{◌≡◌, ◌∙◌, sym, ap, subst}
 use mathlib.Core.Bool.{Bool}
 use mathlib.Core.List.{List}
 use Prim.Native.Nat.{ℕ, suc, ◌+◌, ◌-◌, ◌*◌, ◌/◌, ◌%◌, ◌≤◌, ◌<◌}
 use native.Mathlib.Omega.{arith}
 use borrow.Author.Rules.{rules}
-use borrow.Author.Tests.{lt-ltb, le-ltb}
 use lib.ListN.{length, take, drop}
 use mir.Syntax.{w64}
 use mir.Val.{Fits}
+use Rattle.dictionary.specs.Steps.{Short, Step, past, short_past}
 use Rattle.types.specs.Choice.{pick}
 use Rattle.types.specs.Counters.{no_places}
 use Rattle.types.specs.declared.Place.{Place}
 use Rattle.types.specs.declared.Places.{Places}
 use Rattle.types.specs.declared.Budget.{Budget}
 use Rattle.types.specs.declared.Refusal.{Refusal}
-use Rattle.types.specs.declared.Refusal.TheVariants as R
 use Rattle.types.specs.declared.Tallied.{Tallied}
 use Rattle.types.specs.declared.TallyAnswer.{TallyAnswer}
 use Rattle.types.specs.declared.TallyAnswer.TheVariants as TA
 use Rattle.letters.specs.Letters.{letters}
-use Rattle.dictionary.specs.declared.Step.{Step}
-use Rattle.dictionary.specs.declared.Step.TheVariants as ST
-use Rattle.dictionary.specs.declared.Short.{Short}
-use Rattle.dictionary.specs.declared.Short.TheVariants as SH
 use Rattle.dictionary.specs.Steps.{stepped, short_step, last_of}
-use Rattle.dictionary.specs.Runs.{tallied, tally_from, tally_all, nothing, unlimited}
+use Rattle.dictionary.specs.Runs.{tallied, tally_from, nothing, unlimited}
 use Rattle.dictionary.proofs.Steps.{Past, forward, went, Told, told, by_step, step_starts, step_begins}
 use Rattle.dictionary.proofs.Steps.{step_inside, step_falls, step_less, past_last, told_refused}
 use Rattle.dictionary.proofs.Shorts.{by_first, short_alone, short_starts, short_inside, short_falls, short_less}
@@ -175,30 +171,30 @@ module _ (s : List ℕ) (at : Place) (left : Budget) (place : Place) (rest : Bud
   tallies headers charge signs last i full l n most e =
       passed s at.0 left place rest places string h p full headers charge signs last i l n most e
 
-pub head_fits : Told stepped ST.Past HeadFits
-head_fits = told stepped ST.Past by_step HeadFits fits_head
+pub head_fits : Told stepped past HeadFits
+head_fits = told stepped past by_step HeadFits fits_head
 
-pub heads_fit : Told stepped ST.Past HeadsFit
-heads_fit = told stepped ST.Past by_step HeadsFit fits_heads
+pub heads_fit : Told stepped past HeadsFit
+heads_fit = told stepped past by_step HeadsFit fits_heads
 
-pub charge_fits : Told stepped ST.Past ChargeFits
-charge_fits = told stepped ST.Past by_step ChargeFits fits_charge
+pub charge_fits : Told stepped past ChargeFits
+charge_fits = told stepped past by_step ChargeFits fits_charge
 
-pub letters_fit : Told stepped ST.Past LettersFit
-letters_fit = told stepped ST.Past by_step LettersFit fits_letters
+pub letters_fit : Told stepped past LettersFit
+letters_fit = told stepped past by_step LettersFit fits_letters
 
-pub step_tally : Told stepped ST.Past Tallies
-step_tally = told stepped ST.Past by_step Tallies tallies
+pub step_tally : Told stepped past Tallies
+step_tally = told stepped past by_step Tallies tallies
 
-pub short_charge_fits : Told short_step SH.Past ChargeFits
-short_charge_fits = told short_step SH.Past by_first ChargeFits fits_charge
+pub short_charge_fits : Told short_step short_past ChargeFits
+short_charge_fits = told short_step short_past by_first ChargeFits fits_charge
 
-pub short_letters_fit : Told short_step SH.Past LettersFit
-short_letters_fit = told short_step SH.Past by_first LettersFit fits_letters
+pub short_letters_fit : Told short_step short_past LettersFit
+short_letters_fit = told short_step short_past by_first LettersFit fits_letters
 
 -- the header is one byte of those passed by their first byte
 module _ (s : List ℕ) (at : Place) (left : Budget) (r : Short) (place : Place) (rest : Budget) (body : Place)
-    (string : Bool) (q : r ≡ short_step s at.0 left) (p : r ≡ SH.Past place rest body string) (h : at.0 < length s)
+    (string : Bool) (q : r ≡ short_step s at.0 left) (p : r ≡ Some (place, rest, body, string)) (h : at.0 < length s)
     (headers charge signs : ℕ) (last : Places) (i : Tallying s headers charge signs at.0 last)
     (full : left ≡ record { 0 = unlimited }) (l : length s ≤ 16_777_216) where
   one_more : another headers (body.0 - at.0) ≡ headers + 0x4000_0001
@@ -207,7 +203,7 @@ module _ (s : List ℕ) (at : Place) (left : Budget) (r : Short) (place : Place)
   pub short_heads_fit : Fits w64 (headers + 0x4000_0001)
   short_heads_fit =
       subst (Fits w64) one_more
-      (told short_step SH.Past by_first HeadsFit fits_heads s at left r place rest body string q p h headers charge
+      (told short_step short_past by_first HeadsFit fits_heads s at left r place rest body string q p h headers charge
       signs last i full l)
 
   pub short_tally : (n : ℕ) → n + body.0 ≤ place.0 →
@@ -215,7 +211,7 @@ module _ (s : List ℕ) (at : Place) (left : Budget) (r : Short) (place : Place)
       Tallying s (headers + 0x4000_0001) (charge + (unlimited - rest.0)) (signs + n) place.0 (last_of s at place)
   short_tally n most e =
       rw (← one_more)
-      (told short_step SH.Past by_first Tallies tallies s at left r place rest body string q p h headers charge signs
+      (told short_step short_past by_first Tallies tallies s at left r place rest body string q p h headers charge signs
       last i full l n most e)
 
 module _ (s : List ℕ) (headers charge signs : ℕ) (at : Place) (last : Places)
@@ -223,7 +219,7 @@ module _ (s : List ℕ) (headers charge signs : ℕ) (at : Place) (last : Places
   -- refused by the step
   pub tally_stops : (answer : TallyAnswer) (r : Step) (end : Place) (rest : Budget) (why : Refusal) →
       answer ≡ TA.Stopped last why at → at.0 < length s → r ≡ stepped s at.0 (record { 0 = unlimited }) →
-      r ≡ ST.Refused end rest why → answer ≡ tally_from (suc (length s)) s 0 nothing no_places
+      r ≡ Err (end, rest, why) → answer ≡ tally_from (suc (length s)) s 0 nothing no_places
   tally_stops answer r end rest why e h q p =
       e
       ∙ walk_answers tallying s _ _ at.0 _ i.walked _
@@ -250,13 +246,3 @@ pub ruleset short_passed =
 pub ruleset tally_turns = (short_charge_fits, short_letters_fit, short_tally, step_tally)
 
 pub ruleset tally_laws = (tally_begins, short_passed, step_passed, tally_turns, tally_stops, tally_ends, rules)
-
--- the length is judged before that
-module _ (s : List ℕ) (r : TallyAnswer) where
-  pub too_long : r ≡ TA.Refused no_places R.TooLong → 16_777_216 < length s → r ≡ tally_all s
-  too_long e h = e ∙ simp (lt-ltb _ _ h)
-
-  pub not_too_long : r ≡ tally_from (suc (length s)) s 0 nothing no_places → length s ≤ 16_777_216 → r ≡ tally_all s
-  not_too_long e h = e ∙ simp (le-ltb _ _ h)
-
-pub ruleset length_ends = (too_long, not_too_long, rules)

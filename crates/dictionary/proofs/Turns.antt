@@ -1,5 +1,6 @@
 -- The turns of the run and of the tally, by what the step answers; and what holds before each turn of such a walk. The
 -- run is defined over `read_atom`: the step's answer says what that was.
+use Rattle.std.specs.Prelude.{Ok, Err}
 use mathlib.Core.Path.{◌≡◌, refl, ◌∙◌, sym, ap}
 use mathlib.Core.Bool.{Bool, false≢true}
 use mathlib.Core.List.{List, []}
@@ -7,15 +8,13 @@ use Prim.Native.Nat.{ℕ, suc, ◌+◌, ◌-◌, ◌≤◌, ◌<◌}
 use native.Mathlib.Omega.{arith}
 use lib.ListN.{length}
 use borrow.Author.Tests.{lt-ltb, le-ltb}
+use Rattle.types.proofs.Answers.{same_ok}
+use Rattle.types.specs.Answers.{AtomAnswer, run_of}
 use Rattle.types.specs.declared.Way.TheVariants as W
 use Rattle.types.specs.declared.Place.{Place}
 use Rattle.types.specs.declared.Places.{Places}
 use Rattle.types.specs.declared.Budget.{Budget}
 use Rattle.types.specs.declared.Refusal.{Refusal}
-use Rattle.types.specs.declared.AtomAnswer.{AtomAnswer}
-use Rattle.types.specs.declared.AtomAnswer.TheVariants as A
-use Rattle.types.specs.declared.Skipped.TheVariants as SK
-use Rattle.types.specs.declared.Ran.TheVariants as RN
 use Rattle.types.specs.declared.Tallied.{Tallied}
 use Rattle.types.specs.declared.TallyAnswer.TheVariants as TA
 use Rattle.atom.specs.Atoms.{atom_read}
@@ -25,12 +24,12 @@ use Rattle.dictionary.specs.Runs.{after_atom, run_from, tally_from, added, unlim
 
 -- what the forgotten value leaves of an atom's read: a refusal as it was
 module _ (place : Place) (rest : Budget) (why : Refusal) where
-  read_refused : (a : AtomAnswer) → forgotten a ≡ SK.Refused place rest why → a ≡ A.Refused place rest why
-  read_refused (A.Read p b y) e = absurd (false≢true cc)
-  read_refused (A.Refused p b r) e = cc
+  read_refused : (a : AtomAnswer) → forgotten a ≡ Err (place, rest, why) → a ≡ Err (place, rest, why)
+  read_refused (Ok (p, b, y)) e = absurd (false≢true cc)
+  read_refused (Err (p, b, r)) e = cc
 
-  pub step_refused : (s : List ℕ) (at : ℕ) (budget : Budget) → skipped s at budget ≡ SK.Refused place rest why →
-      atom_read W.ExactLent s at budget [] ≡ A.Refused place rest why
+  pub step_refused : (s : List ℕ) (at : ℕ) (budget : Budget) → skipped s at budget ≡ Err (place, rest, why) →
+      atom_read W.ExactLent s at budget [] ≡ Err (place, rest, why)
   unfolding skipped
   step_refused s at budget e = read_refused (atom_read W.ExactLent s at budget []) e
 
@@ -38,10 +37,11 @@ module _ (place : Place) (rest : Budget) (why : Refusal) where
 module _ {X : Type 0} (on : Place → Budget → Places → X) (stop : Place → Budget → Refusal → X) (place : Place)
     (rest : Budget)
   where
-    read_past : (a : AtomAnswer) (places : Places) (t : Bool) → forgotten a ≡ SK.Past place rest places t →
+    read_past : (a : AtomAnswer) (places : Places) (t : Bool) → forgotten a ≡ Ok (place, rest, places, t) →
         after_atom a on stop ≡ on place rest places
-    read_past (A.Read p b y) places t e = cc
-    read_past (A.Refused p b r) places t e = absurd (false≢true cc)
+    read_past (Ok (p, b, y)) places t e =
+        ap (λ (x : Place × Budget × Places × Bool). on x.0 x.1 x.2) (same_ok e)
+    read_past (Err (p, b, r)) places t e = absurd (false≢true cc)
 
     module _ (s : List ℕ) (at : ℕ) (budget : Budget) where
       atom_past : (places : Places) (t : Bool) → Past s at budget place rest places t →
@@ -49,7 +49,7 @@ module _ {X : Type 0} (on : Place → Budget → Places → X) (stop : Place →
       unfolding skipped
       atom_past places t e = read_past (atom_read W.ExactLent s at budget []) places t e.is
 
-      atom_refused : (why : Refusal) → skipped s at budget ≡ SK.Refused place rest why →
+      atom_refused : (why : Refusal) → skipped s at budget ≡ Err (place, rest, why) →
           after_atom (atom_read W.ExactLent s at budget []) on stop ≡ stop place rest why
       atom_refused why e = ap (λ (a : AtomAnswer). after_atom a on stop) (step_refused place rest why s at budget e)
 
@@ -64,12 +64,12 @@ module _ (s : List ℕ) (fuel left at : ℕ) (budget : Budget) (atoms : ℕ) (la
         rw (enough, lt-ltb at (length s) h) (atom_past _ _ place rest s at budget places t e)
 
     pub run_stop : (place : Place) (rest : Budget) (why : Refusal) → at < length s →
-        skipped s at budget ≡ SK.Refused place rest why →
-        run_from fuel s at budget atoms last ≡ RN.Stopped place rest atoms last why (record { 0 = at })
+        skipped s at budget ≡ Err (place, rest, why) →
+        run_from fuel s at budget atoms last ≡ Err (run_of place rest atoms last, why, record { 0 = at })
     unfolding run_from
     run_stop place rest why h e = rw (enough, lt-ltb at (length s) h) (atom_refused _ _ place rest s at budget why e)
 
-    pub run_end : length s ≤ at → run_from fuel s at budget atoms last ≡ RN.Done (record { 0 = at }) budget atoms last
+    pub run_end : length s ≤ at → run_from fuel s at budget atoms last ≡ Ok (run_of (record { 0 = at }) budget atoms last)
     unfolding run_from
     run_end h = rw (enough, le-ltb at (length s) h) refl
 
@@ -83,7 +83,7 @@ module _ (s : List ℕ) (fuel left at : ℕ) (t : Tallied) (last : Places) (enou
   tally_on place rest places string h e = rw (enough, lt-ltb at (length s) h, e.is) refl
 
   pub tally_stop : (place : Place) (rest : Budget) (why : Refusal) → at < length s →
-      skipped s at (record { 0 = unlimited }) ≡ SK.Refused place rest why →
+      skipped s at (record { 0 = unlimited }) ≡ Err (place, rest, why) →
       tally_from fuel s at t last ≡ TA.Stopped last why (record { 0 = at })
   unfolding tally_from
   tally_stop place rest why h e = rw (enough, lt-ltb at (length s) h, e) refl

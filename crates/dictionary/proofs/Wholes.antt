@@ -1,5 +1,6 @@
 -- The step at a whole, known atom, with a budget that covers its charge; and at bytes that start with no such atom, or
 -- with one that the budget does not cover.
+use Rattle.std.specs.Prelude.{Ok, Err}
 use mathlib.Core.Path.{◌≡◌, refl, ◌∙◌, sym, ap}
 use mathlib.Core.Bool.{Bool, true, false}
 use mathlib.Core.List.{List, ◌++◌}
@@ -16,7 +17,6 @@ use Rattle.types.specs.declared.Kind.{Kind}
 use Rattle.types.specs.declared.Budget.{Budget}
 use Rattle.types.specs.declared.Refusal.{Refusal}
 use Rattle.types.specs.declared.Refusal.TheVariants as R
-use Rattle.types.specs.declared.Skipped.TheVariants as SK
 use Rattle.types.specs.declared.Tallied.{Tallied}
 use Rattle.header.specs.Header.{header_kind, header_argument, header_length}
 use Rattle.header.proofs.Fewest.{length_bounds, argument_word}
@@ -96,8 +96,7 @@ module _ (s : List ℕ) (at : ℕ) (within : at ≤ length s) (atom rest : List 
             (body_bytes atom) (price atom) t (unknown k (header_argument atom))) w.its_kind
             ∙ past_whole (length s) at (at + header_length atom) budget.0 (is_string k) (body_bytes atom) (price atom)
             (unknown k (header_argument atom)) h room
-            ∙ ap (λ (n : ℕ). SK.Past (record { 0 = n }) (record { 0 = budget.0 - price atom })
-            (places_of (record { 0 = at }) (record { 0 = at + header_length atom }) (record { 0 = n })) (is_string k))
+            ∙ ap (λ (n : ℕ). Ok (record { 0 = n }, record { 0 = budget.0 - price atom }, places_of (record { 0 = at }) (record { 0 = at + header_length atom }) (record { 0 = n }), is_string k))
             past_end;
       }
 
@@ -177,7 +176,7 @@ module _ (s : List ℕ) (at : ℕ) (within : at ≤ length s) (l : List ℕ) (he
 
   -- the step refuses, with the refusal of what stands there
   pub barred_refuses : {why : Refusal} {past charge : ℕ} → Barred l left why past charge →
-      skipped s at (record { 0 = left }) ≡ SK.Refused (record { 0 = at + past }) (record { 0 = left - charge }) why
+      skipped s at (record { 0 = left }) ≡ Err (record { 0 = at + past }, record { 0 = left - charge }, why)
   barred_refuses (header_cut h) =
       let a = rest_end in
       let b : left ≡ left - 0 = omega arith in

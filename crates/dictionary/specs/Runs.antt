@@ -1,6 +1,7 @@
 -- The run and the tally. Document 01, "Two ways of reading" and "Tally"; document 02, K1: "The run and the tally,
 -- refused or not, answer the three places of the last atom they read, all 0 if there was none."
-use Rattle.std.specs.Prelude.{ℕ, zero, suc, ◌+◌, ◌-◌, Bool, List, [], ltb, length, take, drop}
+use Rattle.std.specs.Prelude.{ℕ, zero, suc, ◌+◌, ◌-◌, Bool, List, [], ltb, length, take, drop, Ok, Err}
+use Rattle.types.specs.Answers.{AtomAnswer, Ran, Skipped, run_of}
 use Rattle.types.specs.Choice.{pick}
 use Rattle.types.specs.Counters.{no_places}
 use Rattle.types.specs.declared.Way.TheVariants as W
@@ -9,12 +10,6 @@ use Rattle.types.specs.declared.Places.{Places}
 use Rattle.types.specs.declared.Budget.{Budget}
 use Rattle.types.specs.declared.Refusal.{Refusal}
 use Rattle.types.specs.declared.Refusal.TheVariants as R
-use Rattle.types.specs.declared.AtomAnswer.{AtomAnswer}
-use Rattle.types.specs.declared.AtomAnswer.TheVariants as A
-use Rattle.types.specs.declared.Skipped.{Skipped}
-use Rattle.types.specs.declared.Skipped.TheVariants as SK
-use Rattle.types.specs.declared.Ran.{Ran}
-use Rattle.types.specs.declared.Ran.TheVariants as RN
 use Rattle.types.specs.declared.Tallied.{Tallied}
 use Rattle.types.specs.declared.TallyAnswer.{TallyAnswer}
 use Rattle.types.specs.declared.TallyAnswer.TheVariants as TA
@@ -26,19 +21,19 @@ use Rattle.dictionary.specs.Steps.{skipped}
 -- was refused
 abbrev pub after_atom : {X : Type 0} →
     AtomAnswer → (Place → Budget → Places → X) → (Place → Budget → Refusal → X) → X
-after_atom (A.Read place rest atom) on stop = on place rest atom.places
-after_atom (A.Refused place rest r) on stop = stop place rest r
+after_atom (Ok (place, rest, atom)) on stop = on place rest atom.places
+after_atom (Err (place, rest, r)) on stop = stop place rest r
 
 -- "until the place is the end of the slice or an atom is refused": on from a place, with so many atoms read, the last
 -- of them there; at most `fuel` atoms
 unfoldable pub run_from : ℕ → List ℕ → ℕ → Budget → ℕ → Places → Ran
-run_from zero s at budget atoms last = RN.Done (record { 0 = at }) budget atoms last
+run_from zero s at budget atoms last = Ok (run_of (record { 0 = at }) budget atoms last)
 run_from (suc fuel) s at budget atoms last =
     pick (ltb at (length s))
     (after_atom (atom_read W.ExactLent s at budget [])
     (λ place rest places. run_from fuel s place.0 rest (atoms + 1) places)
-    (λ place rest r. RN.Stopped place rest atoms last r (record { 0 = at })))
-    (RN.Done (record { 0 = at }) budget atoms last)
+    (λ place rest r. Err (run_of place rest atoms last, r, record { 0 = at })))
+    (Ok (run_of (record { 0 = at }) budget atoms last))
 
 -- THE RUN: "reads exactly, strings lent, from place 0". An atom takes a byte at least, so that there are no more atoms
 -- than bytes
@@ -52,8 +47,8 @@ unlimited = 0xFFFF_FFFF_FFFF_FFFF
 -- what a step tells of an atom that was skipped, and of one that was refused
 abbrev pub after_step : {X : Type 0} →
     Skipped → (Place → Budget → Places → Bool → X) → (Refusal → X) → X
-after_step (SK.Past place rest places string) on stop = on place rest places string
-after_step (SK.Refused place rest r) on stop = stop r
+after_step (Ok (place, rest, places, string)) on stop = on place rest places string
+after_step (Err (place, rest, r)) on stop = stop r
 
 -- what a tally counts: atoms, body bytes, charge, letters
 abbrev pub tallied : ℕ → ℕ → ℕ → ℕ → Tallied

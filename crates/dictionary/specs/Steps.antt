@@ -1,6 +1,7 @@
 -- The step of a run: an atom read exactly, strings lent, and its value forgotten. Document 01, "Two ways of reading";
 -- document 02, K1: it answers the same three places.
-use Rattle.std.specs.Prelude.{ℕ, ◌+◌, ◌-◌, ◌/◌, Bool, true, List, [], ltb, leb, eqb, get_or}
+use Rattle.std.specs.Prelude.{ℕ, ◌+◌, ◌-◌, ◌/◌, Bool, true, List, [], ltb, leb, eqb, get_or, Ok, Err, Some, None, Result, Option}
+use Rattle.types.specs.Answers.{AtomAnswer, HeaderAnswer, Skipped}
 use Rattle.types.specs.Choice.{pick}
 use Rattle.types.specs.Counters.{places_of}
 use Rattle.types.specs.Forms.{known, body_length, charge_of, is_string, unknown}
@@ -11,23 +12,13 @@ use Rattle.types.specs.declared.Places.{Places}
 use Rattle.types.specs.declared.Budget.{Budget}
 use Rattle.types.specs.declared.Refusal.{Refusal}
 use Rattle.types.specs.declared.Refusal.TheVariants as R
-use Rattle.types.specs.declared.HeaderAnswer.{HeaderAnswer}
-use Rattle.types.specs.declared.HeaderAnswer.TheVariants as H
-use Rattle.types.specs.declared.AtomAnswer.{AtomAnswer}
-use Rattle.types.specs.declared.AtomAnswer.TheVariants as A
-use Rattle.types.specs.declared.Skipped.{Skipped}
-use Rattle.types.specs.declared.Skipped.TheVariants as SK
 use Rattle.header.specs.Header.{header_read}
 use Rattle.atom.specs.Atoms.{atom_read}
-use Rattle.dictionary.specs.declared.Step.{Step}
-use Rattle.dictionary.specs.declared.Step.TheVariants as ST
-use Rattle.dictionary.specs.declared.Short.{Short}
-use Rattle.dictionary.specs.declared.Short.TheVariants as SH
 
 -- an atom's read with the value forgotten: what is left is its places, and whether it is a string
 abbrev pub forgotten : AtomAnswer → Skipped
-forgotten (A.Read place rest atom) = SK.Past place rest atom.places (is_string atom.kind)
-forgotten (A.Refused place rest r) = SK.Refused place rest r
+forgotten (Ok (place, rest, atom)) = Ok (place, rest, atom.places, is_string atom.kind)
+forgotten (Err (place, rest, r)) = Err (place, rest, r)
 
 -- THE STEP: `read_atom` with the value forgotten
 unfoldable pub skipped : List ℕ → ℕ → Budget → Skipped
@@ -37,13 +28,12 @@ skipped source place budget = forgotten (atom_read W.ExactLent source place budg
 -- so much of the budget left: "budget, then count allowed, then end of input".
 unfoldable pub body_past : ℕ → ℕ → ℕ → ℕ → Bool → ℕ → ℕ → Bool → Refusal → Skipped
 body_past size first at left string len charge allowed why =
-    pick (ltb left charge) (SK.Refused (record { 0 = at }) (record { 0 = left }) R.TooManyBytesRead)
+    pick (ltb left charge) (Err (record { 0 = at }, record { 0 = left }, R.TooManyBytesRead))
     (pick allowed
     (pick (leb (at + len) size)
-    (SK.Past (record { 0 = at + len }) (record { 0 = left - charge })
-    (places_of (record { 0 = first }) (record { 0 = at }) (record { 0 = at + len })) string)
-    (SK.Refused (record { 0 = size }) (record { 0 = left - charge }) R.Eof))
-    (SK.Refused (record { 0 = at }) (record { 0 = left - charge }) why))
+    (Ok (record { 0 = at + len }, record { 0 = left - charge }, places_of (record { 0 = first }) (record { 0 = at }) (record { 0 = at + len }), string))
+    (Err (record { 0 = size }, record { 0 = left - charge }, R.Eof)))
+    (Err (record { 0 = at }, record { 0 = left - charge }, why)))
 
 -- the same, by the kind and the argument of its header
 abbrev pub body_after : ℕ → Kind → ℕ → ℕ → ℕ → ℕ → Skipped
@@ -51,10 +41,17 @@ body_after size kind arg first at left =
     body_past size first at left (is_string kind) (body_length kind arg) (charge_of kind arg) (known kind arg)
     (unknown kind arg)
 
--- The step as the run and the tally are told of it: of the places the start of the body alone.
+-- The step as the run and the tally are told of it: of the places the start of the body alone. Of an atom that is
+-- passed, the place after it, the budget left, that start, and whether it is a string.
+abbrev pub Step : Type 0
+Step = Result (Place × Budget × Place × Bool) (Place × Budget × Refusal)
+
+abbrev pub past : Place → Budget → Place → Bool → Step
+past place rest body string = Ok (place, rest, body, string)
+
 abbrev pub lean : Skipped → Step
-lean (SK.Past place rest places string) = ST.Past place rest places.body string
-lean (SK.Refused place rest r) = ST.Refused place rest r
+lean (Ok (place, rest, places, string)) = Ok (place, rest, places.body, string)
+lean (Err (place, rest, r)) = Err (place, rest, r)
 
 unfoldable pub stepped : List ℕ → ℕ → Budget → Step
 stepped source place budget = lean (skipped source place budget)
@@ -67,9 +64,15 @@ abbrev pub step_after : ℕ → Kind → ℕ → ℕ → ℕ → Step
 step_after size kind arg at left = lean (body_after size kind arg at at left)
 
 -- what a step tells of an atom that it goes past, and of no other
+abbrev pub Short : Type 0
+Short = Option (Place × Budget × Place × Bool)
+
+abbrev pub short_past : Place → Budget → Place → Bool → Short
+short_past place rest body string = Some (place, rest, body, string)
+
 abbrev pub past_alone : Step → Short
-past_alone (ST.Past place rest body string) = SH.Past place rest body string
-past_alone (ST.Refused place rest r) = SH.Other
+past_alone (Ok (place, rest, body, string)) = Some (place, rest, body, string)
+past_alone (Err (place, rest, r)) = None
 
 -- the first bytes that are looked at: a UInt of one byte, a string or a sequence whose header is this byte alone
 abbrev pub short_byte : ℕ → Bool
@@ -77,12 +80,12 @@ short_byte b = pick (eqb b 0x40) true (pick (eqb (b / 16) 14) true (eqb (b / 16)
 
 -- the step at such a byte
 unfoldable pub short_step : List ℕ → ℕ → Budget → Short
-short_step source at budget = pick (short_byte (get_or source at 0)) (past_alone (stepped source at budget)) SH.Other
+short_step source at budget = pick (short_byte (get_or source at 0)) (past_alone (stepped source at budget)) None
 
 -- the place that a header's read leaves, refused or not
 abbrev pub header_end : HeaderAnswer → Place
-header_end (H.Read next kind arg) = next
-header_end (H.Refused end why) = end
+header_end (Ok (next, kind, arg)) = next
+header_end (Err (end, why)) = end
 
 -- where the last atom stands that was read up to a place: from where it starts, past its header, to that place; all one
 -- place if none was read

@@ -8,29 +8,24 @@ ghost use Rattle.types.specs.Counters.{places_of, no_places};
 ghost use Rattle.types.specs.Forms.{number_charge, unsupported};
 ghost use Rattle.types.specs.declared.Refusal.TheVariants as R;
 ghost use Rattle.types.specs.declared.TallyAnswer.TheVariants as TA;
+ghost use Rattle.types.specs.declared.Way.TheVariants.{ExactLent};
 ghost use Rattle.letters.specs.Letters.{letters};
+ghost use Rattle.header.specs.Header.{header_read};
+ghost use Rattle.atom.specs.Atoms.{with_budget};
 ghost use Rattle.dictionary.specs.Steps.{skipped, stepped, body_step, step_after, past_alone, short_step, last_of};
 ghost use Rattle.dictionary.specs.Runs.{run_all, tallied, tally_from, nothing, tally_all};
 
 use types::{
-    BodyBytes, Budget, BudgetAnswer, HeaderAnswer, Kind, Place, Places, Ran, Refusal, Skipped,
-    Special, SpecialAnswer, Tallied, TallyAnswer, Way,
+    BodyBytes, Budget, HeaderAnswer, Kind, Place, Places, Ran, Refusal, Run, Skipped, Special,
+    Tallied, TallyAnswer, Way,
 };
 
 // What the run and the tally are told of an atom: what the step that builds no value answers, with the start of its
 // body alone of its places, since they hold the other two.
-#[derive(Clone, Copy)]
-enum Step {
-    Past(Place, Budget, Place, bool),
-    Refused(Place, Budget, Refusal),
-}
+type Step = Result<(Place, Budget, Place, bool), (Place, Budget, Refusal)>;
 
 // What they know of an atom by its first byte alone: what `step_atom` tells of one that it goes past, or nothing.
-#[derive(Clone, Copy)]
-enum Short {
-    Past(Place, Budget, Place, bool),
-    Other,
-}
+type Short = Option<(Place, Budget, Place, bool)>;
 
 // A number's body, of that many bytes and of an allowed count or not: the charge first, then the count, then the end.
 fn skip_number(
@@ -46,32 +41,33 @@ fn skip_number(
         body_step (length source.now) at.0 left.0 false count (number_charge count) allowed
         (unsupported kind count) }
 {
-    let BudgetAnswer::Left(rest) = atom::update_budget(left, atom::in_memory_int_size(count)) else {
-        return Step::Refused(at, left, Refusal::TooManyBytesRead);
+    let Ok(rest) = atom::update_budget(left, atom::in_memory_int_size(count)) else {
+        return Err((at, left, Refusal::TooManyBytesRead));
     };
     if allowed {
         let room = source.len() - at.0;
         if (room as u64) < count {
-            return Step::Refused(Place(source.len()), rest, Refusal::Eof);
+            return Err((Place(source.len()), rest, Refusal::Eof));
         }
-        return Step::Past(Place(at.0 + count as usize), rest, at, false);
+        return Ok((Place(at.0 + count as usize), rest, at, false));
     }
-    return Step::Refused(at, rest, Refusal::unsupported(kind, count));
+    Err((at, rest, Refusal::unsupported(kind, count)))
 }
 
-// A string's body.
+// A string's body. One function for this and a number's would take the charge, the judgement of the count and the
+// refusal as parameters, and be no plainer.
 fn skip_bytes(source: &[u8], count: u64, at: Place, left: Budget) -> Step
     requires { at.0 ≤ length source.now }
     ensures { result ≡ body_step (length source.now) at.0 left.0 true count count true R.Eof }
 {
-    let BudgetAnswer::Left(rest) = atom::update_budget(left, count) else {
-        return Step::Refused(at, left, Refusal::TooManyBytesRead);
+    let Ok(rest) = atom::update_budget(left, count) else {
+        return Err((at, left, Refusal::TooManyBytesRead));
     };
     let room = source.len() - at.0;
     if (room as u64) < count {
-        return Step::Refused(Place(source.len()), rest, Refusal::Eof);
+        return Err((Place(source.len()), rest, Refusal::Eof));
     }
-    return Step::Past(Place(at.0 + count as usize), rest, at, true);
+    Ok((Place(at.0 + count as usize), rest, at, true))
 }
 
 // What follows a header, by its kind.
@@ -80,41 +76,41 @@ fn skip_body(source: &[u8], kind: Kind, arg: u64, at: Place, left: Budget) -> St
     ensures { result ≡ step_after (length source.now) kind arg at.0 left.0 }
 {
     match kind {
-        Kind::Sequence => return Step::Past(at, left, at, false),
-        Kind::Map => return Step::Past(at, left, at, false),
-        Kind::Symbol => return Step::Past(at, left, at, false),
+        Kind::Sequence | Kind::Map | Kind::Symbol => Ok((at, left, at, false)),
         Kind::Special => match Special::try_from(arg) {
-            SpecialAnswer::Known(_) => {
-                return Step::Past(at, left, at, false);
-            }
-            SpecialAnswer::Refused(refusal) => {
-                return Step::Refused(at, left, refusal);
-            }
+            Ok(_) => Ok((at, left, at, false)),
+            Err(refusal) => Err((at, left, refusal)),
         },
         Kind::Int | Kind::UInt => {
             let count = atom::count_of(arg);
-            return skip_number(source, kind, count, integer::allowed(count), at, left);
+            skip_number(source, kind, count, integer::allowed(count), at, left)
         }
         Kind::Float => {
             let count = atom::count_of(arg);
-            return skip_number(source, kind, count, float::allowed(count), at, left);
+            skip_number(source, kind, count, float::allowed(count), at, left)
         }
-        Kind::Bytes => return skip_bytes(source, arg, at, left),
+        Kind::Bytes => skip_bytes(source, arg, at, left),
     }
+}
+
+// A header, whose refusal leaves the budget.
+fn read_header(
+    source: &[u8],
+    place: Place,
+    budget: Budget,
+) -> Result<(Place, Kind, u64), (Place, Budget, Refusal)>
+    ensures { result ≡ with_budget budget (header_read ExactLent source.now place.0) }
+{
+    let read = header::read_atom_header_by(source, place, Way::ExactLent);
+    read.map_err(|(end, refusal)| (end, budget, refusal))
 }
 
 // Reads an atom exactly, of which the run and the tally go on with what this tells.
 fn step_atom(source: &[u8], place: Place, budget: Budget) -> Step
     ensures { result ≡ stepped source.now place.0 budget }
 {
-    match header::read_atom_header_by(source, place, Way::ExactLent) {
-        HeaderAnswer::Read(next, kind, arg) => {
-            return skip_body(source, kind, arg, next, budget);
-        }
-        HeaderAnswer::Refused(end, refusal) => {
-            return Step::Refused(end, budget, refusal);
-        }
-    }
+    let (next, kind, arg) = read_header(source, place, budget)?;
+    skip_body(source, kind, arg, next, budget)
 }
 
 // Where an atom stands: its first place, the place where its body starts and the place after it.
@@ -128,15 +124,9 @@ fn places_of(first: Place, body: Place, after: Place) -> Places
 pub fn skip_atom(source: &[u8], place: Place, budget: Budget) -> Skipped
     ensures { result ≡ skipped source.now place.0 budget }
 {
-    match step_atom(source, place, budget) {
-        Step::Past(after, rest, body, string) => {
-            let first = Place(place.within(source.len()));
-            return Skipped::Past(after, rest, places_of(first, body, after), string);
-        }
-        Step::Refused(end, rest, refusal) => {
-            return Skipped::Refused(end, rest, refusal);
-        }
-    }
+    let (after, rest, body, string) = step_atom(source, place, budget)?;
+    let first = Place(place.within(source.len()));
+    Ok((after, rest, places_of(first, body, after), string))
 }
 
 // A known body of that length and charge, after a header of one byte.
@@ -153,12 +143,12 @@ fn short_body(
 {
     let from = at.0 + 1;
     if ((size - from) as u64) < body.0 {
-        return Short::Other;
+        return None;
     }
-    let BudgetAnswer::Left(rest) = atom::update_budget(left, charge) else {
-        return Short::Other;
+    let Ok(rest) = atom::update_budget(left, charge) else {
+        return None;
     };
-    return Short::Past(Place(from + body.0 as usize), rest, Place(from), string);
+    Some((Place(from + body.0 as usize), rest, Place(from), string))
 }
 
 // An atom that the run and the tally pass without asking `step_atom`: a UInt of one byte, a string or a sequence whose
@@ -187,7 +177,7 @@ fn short_atom(source: &[u8], at: Place, left: Budget) -> Short
     if first / 16 == 8 {
         return short_body(size, at, left, BodyBytes(0), 0, false);
     }
-    return Short::Other;
+    return None;
 }
 
 // Where the last atom stands, of which a loop holds where it starts, and that it ends where the loop is: its header,
@@ -199,12 +189,13 @@ fn last_places(source: &[u8], first: Place, at: Place) -> Places
         return places_of(first, first, first);
     }
     match header::read_atom_header_by(source, first, Way::ExactLent) {
-        HeaderAnswer::Read(body, _, _) => return places_of(first, body, at),
-        HeaderAnswer::Refused(end, _) => return places_of(first, end, at),
+        Ok((body, _, _)) => return places_of(first, body, at),
+        Err((end, _)) => return places_of(first, end, at),
     }
 }
 
-// Reads a file's atoms until its end or a refusal.
+// Reads a file's atoms until its end or a refusal. Each tells where the next one starts, so that there is no list to go
+// over with `for`.
 pub fn run(source: &[u8], budget: Budget) -> Ran
     ensures { result ≡ run_all source.now budget }
 {
@@ -213,30 +204,38 @@ pub fn run(source: &[u8], budget: Budget) -> Ran
     let mut at = Place(0);
     let mut left = budget;
     while at.0 < source.len() {
-        match short_atom(source, at, left) {
-            Short::Past(end, rest, _, _) => {
-                atoms += 1;
-                first = at;
-                at = end;
-                left = rest;
-                continue;
-            }
-            Short::Other => {}
+        if let Some((end, rest, _, _)) = short_atom(source, at, left) {
+            atoms += 1;
+            first = at;
+            at = end;
+            left = rest;
+            continue;
         }
         match step_atom(source, at, left) {
-            Step::Past(next, rest, _, _) => {
+            Ok((next, rest, _, _)) => {
                 atoms += 1;
                 first = at;
                 at = next;
                 left = rest;
             }
-            Step::Refused(place, rest, refusal) => {
+            Err((place, budget, refusal)) => {
                 let last = last_places(source, first, at);
-                return Ran::Stopped(place, rest, atoms, last, refusal, at);
+                let run = Run {
+                    place,
+                    budget,
+                    atoms,
+                    last,
+                };
+                return Err((run, refusal, at));
             }
         }
     }
-    return Ran::Done(at, left, atoms, last_places(source, first, at));
+    Ok(Run {
+        place: at,
+        budget: left,
+        atoms,
+        last: last_places(source, first, at),
+    })
 }
 
 // The letters of an atom's body, none if it is no string.
@@ -253,7 +252,8 @@ fn letters_of(source: &[u8], from: Place, to: Place, string: bool) -> u64
     0
 }
 
-// The same of an atom that is passed by its first byte: such a string is short, and mostly a word.
+// The same of an atom that is passed by its first byte: such a string is short, and mostly a word. The count that it
+// calls would be a closure in one function for both, whose clauses would stand in the contract: no plainer.
 fn letters_of_short(source: &[u8], from: Place, to: Place, string: bool) -> u64
     requires { (from.0 ≤ to.0) × (to.0 ≤ length source.now) }
     ensures { (result ≡ pick string (letters (take (to.0 - from.0) (drop from.0 source.now))) 0) ×
@@ -300,8 +300,9 @@ fn too_long() -> TallyAnswer
 }
 
 // Counts the atoms of a file that is not too long. Each is read with the largest budget, which no charge exceeds: what
-// it takes of that is its charge. What is no header is a body: the headers, one of each atom, and their bytes are
-// counted, in one number, by 2^30 and by 1, so that the loop has no more to hold than a processor has registers.
+// it takes of that is its charge, and each tells where the next one starts. What is no header is a body: the headers,
+// one of each atom, and their bytes are counted, in one number, by 2^30 and by 1, so that the loop has no more to hold
+// than a processor has registers.
 fn tally_within(source: &[u8]) -> TallyAnswer
     requires { length source.now ≤ 16_777_216 }
     ensures { result ≡ tally_from (suc (length source.now)) source.now 0 nothing no_places }
@@ -312,26 +313,27 @@ fn tally_within(source: &[u8]) -> TallyAnswer
     let mut first = Place(0);
     let mut at = Place(0);
     while at.0 < source.len() {
-        match short_atom(source, at, Budget(0xFFFF_FFFF_FFFF_FFFF)) {
-            Short::Past(end, rest, from, string) => {
-                letters += letters_of_short(source, from, end, string);
-                charge += 0xFFFF_FFFF_FFFF_FFFF - rest.0;
-                headers += 0x4000_0001;
-                first = at;
-                at = end;
-                continue;
-            }
-            Short::Other => {}
+        if let Some((end, rest, from, string)) = short_atom(
+            source,
+            at,
+            Budget(0xFFFF_FFFF_FFFF_FFFF),
+        ) {
+            letters += letters_of_short(source, from, end, string);
+            charge += 0xFFFF_FFFF_FFFF_FFFF - rest.0;
+            headers += 0x4000_0001;
+            first = at;
+            at = end;
+            continue;
         }
         match step_atom(source, at, Budget(0xFFFF_FFFF_FFFF_FFFF)) {
-            Step::Past(place, rest, from, string) => {
+            Ok((place, rest, from, string)) => {
                 letters += letters_of(source, from, place, string);
                 charge += 0xFFFF_FFFF_FFFF_FFFF - rest.0;
                 headers += 0x4000_0000 + (from.0 - at.0) as u64;
                 first = at;
                 at = place;
             }
-            Step::Refused(_, _, refusal) => return stopped(source, first, at, refusal),
+            Err((_, _, refusal)) => return stopped(source, first, at, refusal),
         }
     }
     let atoms = headers / 0x4000_0000;

@@ -1,8 +1,9 @@
 // The library's functions on numbers and slices alone, for programs of other languages: each answers a number, 0 or the
-// refusal's, and writes twelve words, as `words.Layout` says. A float goes in and out as its bits.
+// refusal's, and writes twelve words, as `words.Layout` says. A float goes in and out as its bits. Those that differ in
+// the function alone that they call stand each by itself, since each is one of the C interface.
 #![tactic(auto)]
 
-ghost use Rattle.std.specs.Prelude.{◌≡◌, not, [], eqb, ltb};
+ghost use Rattle.std.specs.Prelude.{Err, ◌≡◌, not, [], eqb, ltb};
 ghost use Rattle.std.specs.Float.{binary32, binary64};
 ghost use Rattle.std.specs.Float.Ieee.{of_bits};
 ghost use Rattle.types.specs.Choice.{pick};
@@ -11,7 +12,6 @@ ghost use Rattle.types.specs.Ways.{unnamed_way};
 ghost use Rattle.types.specs.declared.Way.TheVariants.{Filled, ExactLent, ExactCopied};
 ghost use Rattle.types.specs.declared.Special.TheVariants.{None, Unit, Named};
 ghost use Rattle.types.specs.declared.Float.TheVariants.{F32, F64};
-ghost use Rattle.types.specs.declared.Written.TheVariants.{Refused};
 ghost use Rattle.lent.specs.Lent.{written_answer, written_content};
 ghost use Rattle.header.specs.Header.{header_bytes};
 ghost use Rattle.header.specs.Signature.{version_read, signature_bytes};
@@ -32,7 +32,7 @@ ghost use Rattle.words.specs.Layout.{said_refused, said_word, said_cast, said_as
 ghost use Rattle.recast.specs.Recasts.{recast, integer_of_words, of_integer};
 ghost use Rattle.exports.specs.Named.{of_kind, of_special};
 
-use types::{AsInteger, Budget, Float, Kind, KindAnswer, Place, Special, SpecialAnswer, Way, Wide};
+use types::{Budget, Float, Kind, Place, Special, Way, Wide};
 
 // How much of a buffer is lent to a writer: all of it, or nothing where the words have no room, since nothing is done
 // then. With no byte lent nothing is written, and what says the answer refuses for the words.
@@ -538,10 +538,10 @@ pub fn pot_write_f64(out: &mut [u8], bits: u64, words: &mut [u64]) -> u64
 // Writes an atom header, of a kind given by its code.
 pub fn pot_write_atom_header(out: &mut [u8], kind: u8, arg: u64, words: &mut [u64]) -> u64
     ensures value { result ≡
-        number_of (said_written (of_kind (λ k. written_answer (header_bytes k arg) out.old) Refused
+        number_of (said_written (of_kind (λ k. written_answer (header_bytes k arg) out.old) Err
         (kind_from kind))) words.old }
     ensures words_after { words.new ≡
-        words_of (said_written (of_kind (λ k. written_answer (header_bytes k arg) out.old) Refused
+        words_of (said_written (of_kind (λ k. written_answer (header_bytes k arg) out.old) Err
         (kind_from kind))) words.old }
     ensures out_after { out.new ≡
         unless_short words.old out.old
@@ -550,21 +550,21 @@ pub fn pot_write_atom_header(out: &mut [u8], kind: u8, arg: u64, words: &mut [u6
 {
     let room = granted(words.len(), out.len());
     match Kind::from_u8(kind) {
-        KindAnswer::Known(known) => {
+        Ok(known) => {
             let answer = header::write_atom_header(&mut out[0..room], known, arg);
             return words::say_written(words, answer);
         }
-        KindAnswer::Refused(refusal) => return words::say_refused(words, refusal),
+        Err(refusal) => return words::say_refused(words, refusal),
     }
 }
 
 // Writes a special, given by its code.
 pub fn pot_write_special(out: &mut [u8], special: u64, words: &mut [u64]) -> u64
     ensures value { result ≡
-        number_of (said_written (of_special (λ k. written_answer (special_bytes k) out.old) Refused
+        number_of (said_written (of_special (λ k. written_answer (special_bytes k) out.old) Err
         (special_from special))) words.old }
     ensures words_after { words.new ≡
-        words_of (said_written (of_special (λ k. written_answer (special_bytes k) out.old) Refused
+        words_of (said_written (of_special (λ k. written_answer (special_bytes k) out.old) Err
         (special_from special))) words.old }
     ensures out_after { out.new ≡
         unless_short words.old out.old
@@ -573,11 +573,11 @@ pub fn pot_write_special(out: &mut [u8], special: u64, words: &mut [u64]) -> u64
 {
     let room = granted(words.len(), out.len());
     match Special::try_from(special) {
-        SpecialAnswer::Known(known) => {
+        Ok(known) => {
             let answer = writers::write_special(&mut out[0..room], known);
             return words::say_written(words, answer);
         }
-        SpecialAnswer::Refused(refusal) => return words::say_refused(words, refusal),
+        Err(refusal) => return words::say_refused(words, refusal),
     }
 }
 
@@ -590,10 +590,10 @@ pub fn pot_write_integer(
     words: &mut [u64],
 ) -> u64
     ensures value { result ≡
-        number_of (said_written (of_integer (λ k. written_answer (value_bytes k) out.old) Refused
+        number_of (said_written (of_integer (λ k. written_answer (value_bytes k) out.old) Err
         (integer_of_words variant (record { lo = low; hi = high })))) words.old }
     ensures words_after { words.new ≡
-        words_of (said_written (of_integer (λ k. written_answer (value_bytes k) out.old) Refused
+        words_of (said_written (of_integer (λ k. written_answer (value_bytes k) out.old) Err
         (integer_of_words variant (record { lo = low; hi = high })))) words.old }
     ensures out_after { out.new ≡
         unless_short words.old out.old
@@ -602,11 +602,11 @@ pub fn pot_write_integer(
 {
     let room = granted(words.len(), out.len());
     match recast::integer_from(variant, low, high) {
-        AsInteger::Value(known) => {
+        Ok(known) => {
             let answer = writers::write_to(&mut out[0..room], known);
             return words::say_written(words, answer);
         }
-        AsInteger::Refused(refusal) => return words::say_refused(words, refusal),
+        Err(refusal) => return words::say_refused(words, refusal),
     }
 }
 
@@ -637,8 +637,8 @@ pub fn pot_integer_cast(to: u64, variant: u64, low: u64, high: u64, words: &mut 
         (integer_of_words variant (record { lo = low; hi = high }))) words.old }
 {
     match recast::integer_from(variant, low, high) {
-        AsInteger::Value(x) => return words::say_cast(words, recast::recast(to, x)),
-        AsInteger::Refused(refusal) => return words::say_refused(words, refusal),
+        Ok(x) => return words::say_cast(words, recast::recast(to, x)),
+        Err(refusal) => return words::say_refused(words, refusal),
     }
 }
 
@@ -652,8 +652,8 @@ pub fn pot_integer_as_f32(variant: u64, low: u64, high: u64, words: &mut [u64]) 
         (integer_of_words variant (record { lo = low; hi = high }))) words.old }
 {
     match recast::integer_from(variant, low, high) {
-        AsInteger::Value(x) => return words::say_as_f32(words, cast::as_f32(x)),
-        AsInteger::Refused(refusal) => return words::say_refused(words, refusal),
+        Ok(x) => return words::say_as_f32(words, cast::as_f32(x)),
+        Err(refusal) => return words::say_refused(words, refusal),
     }
 }
 
@@ -667,8 +667,8 @@ pub fn pot_integer_as_f64(variant: u64, low: u64, high: u64, words: &mut [u64]) 
         (integer_of_words variant (record { lo = low; hi = high }))) words.old }
 {
     match recast::integer_from(variant, low, high) {
-        AsInteger::Value(x) => return words::say_as_f64(words, cast::as_f64(x)),
-        AsInteger::Refused(refusal) => return words::say_refused(words, refusal),
+        Ok(x) => return words::say_as_f64(words, cast::as_f64(x)),
+        Err(refusal) => return words::say_refused(words, refusal),
     }
 }
 

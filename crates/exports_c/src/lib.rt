@@ -2,16 +2,14 @@
 // there. It stands apart since a crate is a library or a static library, and the promises are about the library.
 #![tactic(auto)]
 
-ghost use Rattle.std.specs.Prelude.{◌≡◌, not, [], eqb, ltb};
+ghost use Rattle.std.specs.Prelude.{Err, ◌≡◌, not, [], eqb};
 ghost use Rattle.std.specs.Float.{binary32, binary64};
 ghost use Rattle.std.specs.Float.Ieee.{of_bits};
-ghost use Rattle.types.specs.Choice.{pick};
 ghost use Rattle.types.specs.Kinds.{kind_from, special_from};
 ghost use Rattle.types.specs.Ways.{unnamed_way};
 ghost use Rattle.types.specs.declared.Way.TheVariants.{Filled, ExactLent, ExactCopied};
 ghost use Rattle.types.specs.declared.Special.TheVariants.{None, Unit, Named};
 ghost use Rattle.types.specs.declared.Float.TheVariants.{F32, F64};
-ghost use Rattle.types.specs.declared.Written.TheVariants.{Refused};
 ghost use Rattle.lent.specs.Lent.{written_answer, written_content};
 ghost use Rattle.header.specs.Header.{header_bytes};
 ghost use Rattle.header.specs.Signature.{version_read, signature_bytes};
@@ -27,7 +25,7 @@ ghost use Rattle.atom.specs.Atoms.{atom_read, atom_scratch};
 ghost use Rattle.dictionary.specs.Steps.{skipped};
 ghost use Rattle.dictionary.specs.Runs.{run_all, tally_all};
 ghost use Rattle.shortest.specs.Checks.{check_all};
-ghost use Rattle.words.specs.Layout.{word_count, number_of, words_of, unless_short, said_atom, said_skipped, said_ran, said_tally, said_checked, said_version, said_written};
+ghost use Rattle.words.specs.Layout.{number_of, words_of, unless_short, said_atom, said_skipped, said_ran, said_tally, said_checked, said_version, said_written};
 ghost use Rattle.words.specs.Layout.{said_refused, said_word, said_cast, said_as_integer, said_as_f32, said_as_f64, said_narrowed};
 ghost use Rattle.recast.specs.Recasts.{recast, integer_of_words, of_integer};
 ghost use Rattle.exports.specs.Named.{of_kind, of_special};
@@ -483,10 +481,10 @@ pub extern "C" fn pot_write_atom_header(
     words: &mut [u64],
 ) -> u64
     ensures value { result ≡
-        number_of (said_written (of_kind (λ k. written_answer (header_bytes k arg) out.old) Refused
+        number_of (said_written (of_kind (λ k. written_answer (header_bytes k arg) out.old) Err
         (kind_from kind))) words.old }
     ensures words_after { words.new ≡
-        words_of (said_written (of_kind (λ k. written_answer (header_bytes k arg) out.old) Refused
+        words_of (said_written (of_kind (λ k. written_answer (header_bytes k arg) out.old) Err
         (kind_from kind))) words.old }
     ensures out_after { out.new ≡
         unless_short words.old out.old
@@ -500,10 +498,10 @@ pub extern "C" fn pot_write_atom_header(
 #[unsafe(no_mangle)]
 pub extern "C" fn pot_write_special(out: &mut [u8], special: u64, words: &mut [u64]) -> u64
     ensures value { result ≡
-        number_of (said_written (of_special (λ k. written_answer (special_bytes k) out.old) Refused
+        number_of (said_written (of_special (λ k. written_answer (special_bytes k) out.old) Err
         (special_from special))) words.old }
     ensures words_after { words.new ≡
-        words_of (said_written (of_special (λ k. written_answer (special_bytes k) out.old) Refused
+        words_of (said_written (of_special (λ k. written_answer (special_bytes k) out.old) Err
         (special_from special))) words.old }
     ensures out_after { out.new ≡
         unless_short words.old out.old
@@ -523,10 +521,10 @@ pub extern "C" fn pot_write_integer(
     words: &mut [u64],
 ) -> u64
     ensures value { result ≡
-        number_of (said_written (of_integer (λ k. written_answer (value_bytes k) out.old) Refused
+        number_of (said_written (of_integer (λ k. written_answer (value_bytes k) out.old) Err
         (integer_of_words variant (record { lo = low; hi = high })))) words.old }
     ensures words_after { words.new ≡
-        words_of (said_written (of_integer (λ k. written_answer (value_bytes k) out.old) Refused
+        words_of (said_written (of_integer (λ k. written_answer (value_bytes k) out.old) Err
         (integer_of_words variant (record { lo = low; hi = high })))) words.old }
     ensures out_after { out.new ≡
         unless_short words.old out.old

@@ -1,4 +1,5 @@
 -- The ends of float's functions: at each return or call, what the code has in hand there and what it answers.
+use Rattle.std.specs.Prelude.{Result, Ok, Err, Option, Some, None}
 use mathlib.Core.Path.{◌≡◌, sym, ◌∙◌}
 use mathlib.Core.Bool.{Bool, true, false}
 use mathlib.Core.List.{List, ◌∷◌}
@@ -8,6 +9,7 @@ use borrow.Author.Rules.{rules}
 use borrow.Author.Tests.{le-leb, lt-leb, eq-eqb, ne_eqb}
 use lib.Ieee as Ieee
 use lib.ListN.{length}
+use Rattle.types.specs.Answers.{FloatAnswer}
 use Rattle.types.specs.Counters.{place_in}
 use Rattle.types.specs.Kinds.{kind_code}
 use Rattle.types.specs.Ways.{exact}
@@ -19,21 +21,14 @@ use Rattle.types.specs.declared.Float.{Float}
 use Rattle.types.specs.declared.Float.TheVariants as F
 use Rattle.types.specs.declared.Refusal.{Refusal}
 use Rattle.types.specs.declared.Refusal.TheVariants as R
-use Rattle.types.specs.declared.Written.{Written}
-use Rattle.types.specs.declared.AsF32.{AsF32}
-use Rattle.types.specs.declared.FloatAnswer.{FloatAnswer}
-use Rattle.types.specs.declared.FloatAnswer.TheVariants as FA
 use Rattle.header.specs.Header.{header_bytes}
 use Rattle.lent.specs.Lent.{written_answer, written_content}
 use Rattle.little.specs.Le.{number_at, to_le}
 use Rattle.little.proofs.Judged.{judged_laws}
 use Rattle.little.proofs.Zeros.{block_laws}
-use Rattle.binary.specs.declared.Narrowed16 as N16
-use Rattle.binary.specs.declared.Narrowed32 as N32
 use Rattle.binary.specs.Formats.{half, single, double}
-use Rattle.binary.specs.Conversions.{widened, narrowed, narrowed_meaning, answer16, answer32}
+use Rattle.binary.specs.Conversions.{widened, narrowed, narrowed_meaning}
 use Rattle.binary.specs.Floats.{float_meaning}
-use Rattle.binary.proofs.Laws.{kept16, lost16, kept32, lost32}
 use Rattle.float.specs.Floats.{float_of, float_body, float_from, float_read}
 use Rattle.float.specs.Bytes.{float_bytes, f32_bytes, f64_bytes, value_bytes}
 use Rattle.float.specs.Values.{float_value, at_most, is_zero, as_f32, if_equal, equal_numbers, equal_floats}
@@ -110,14 +105,14 @@ pub ruleset block_ends = (block_laws, few_bytes, rules)
 module _ (way : Way) (s : List ℕ) (at count : ℕ) (kind : Kind) (code : ℕ) (d : code ≡ kind_code kind) where
   -- of another kind
   pub kind_refused : (code ≡ 3 → ⊥) →
-      FA.Refused (record { 0 = at }) (R.UnexpectedKind kind K.Float) ≡ float_from way s at kind count
+      Err (record { 0 = at }, R.UnexpectedKind kind K.Float) ≡ float_from way s at kind count
   unfolding float_from
   kind_refused k = cc (ne_eqb code 3 k)
 
   module _ (k : code ≡ 3) where
     -- of a count that is not allowed
     pub count_refused : (why : Refusal) → why ≡ unsupported K.Float count → allowed_float count ≡ false →
-        FA.Refused (record { 0 = at }) why ≡ float_from way s at kind count
+        Err (record { 0 = at }, why) ≡ float_from way s at kind count
     unfolding float_from
     count_refused why r a = cc (eq-eqb code 3 k)
 
@@ -125,19 +120,19 @@ module _ (way : Way) (s : List ℕ) (at count : ℕ) (kind : Kind) (code : ℕ) 
     module _ (a : allowed_float count ≡ true) (within : at ≤ length s) where
       pub read_whole : (bits : ℕ) (value : Float) → count ≤ length s - at → bits ≡ number_at count s at →
           value ≡ float_of count bits →
-          FA.Read (record { 0 = at + count }) value bits ≡ float_from way s at kind count
+          Ok (record { 0 = at + count }, value, bits) ≡ float_from way s at kind count
       unfolding float_from float_body
       read_whole bits value l b v = cc (eq-eqb code 3 k, le-leb (at + count) (length s) (omega arith))
 
       module _ (exactly : Bool) (l : length s - at < count) (x : exactly ≡ exact way) where
         pub read_past_end : exactly ≡ true →
-            FA.Refused (record { 0 = length s }) R.Eof ≡ float_from way s at kind count
+            Err (record { 0 = length s }, R.Eof) ≡ float_from way s at kind count
         unfolding float_from float_body
         read_past_end y = cc (eq-eqb code 3 k, lt-leb (at + count) (length s) (omega arith))
 
         pub read_filled : (bits : ℕ) (value : Float) → exactly ≡ false → bits ≡ number_at count s at →
             value ≡ float_of count bits →
-            FA.Read (record { 0 = length s }) value bits ≡ float_from way s at kind count
+            Ok (record { 0 = length s }, value, bits) ≡ float_from way s at kind count
         unfolding float_from float_body
         read_filled bits value y b v = cc (eq-eqb code 3 k, lt-leb (at + count) (length s) (omega arith))
 
@@ -153,30 +148,30 @@ pub ruleset read_ends = (judged_ends, judged_laws, read_within, rules)
 
 -- bytes were written that are those of the value
 module _ (these bytes old : List ℕ) where
-  pub answered : (r : Written) → r ≡ written_answer these old → these ≡ bytes → r ≡ written_answer bytes old
+  pub answered : (r : Result ℕ Refusal) → r ≡ written_answer these old → these ≡ bytes → r ≡ written_answer bytes old
   answered r a e = cc
 
   pub stored : (new : List ℕ) → new ≡ written_content these old → these ≡ bytes → new ≡ written_content bytes old
   stored new c e = cc
 
 -- by what the narrowing answered: 2 bytes of a binary32 pattern, or 4
-module _ (bits : ℕ) (got : N16.Narrowed16) (g : got ≡ answer16 (narrowed single half bits)) where
-  pub half_written : (q : ℕ) → got ≡ N16.TheVariants.Pattern q → 0x61 ∷ to_le 2 q ≡ f32_bytes bits
+module _ (bits : ℕ) (got : Option ℕ) (g : got ≡ narrowed single half bits) where
+  pub half_written : (q : ℕ) → got ≡ Some q → 0x61 ∷ to_le 2 q ≡ f32_bytes bits
   unfolding float_bytes header_bytes
-  half_written q h = f32_short bits q (kept16 (narrowed single half bits) q (sym g ∙ h))
+  half_written q h = f32_short bits q (sym g ∙ h)
 
-  pub single_written : got ≡ N16.TheVariants.None → 0x63 ∷ to_le 4 bits ≡ f32_bytes bits
+  pub single_written : got ≡ None → 0x63 ∷ to_le 4 bits ≡ f32_bytes bits
   unfolding float_bytes header_bytes
-  single_written h = f32_own bits (lost16 (narrowed single half bits) (sym g ∙ h))
+  single_written h = f32_own bits (sym g ∙ h)
 
 -- those of a binary32 pattern of a binary64 one, or 8
-module _ (bits : ℕ) (got : N32.Narrowed32) (g : got ≡ answer32 (narrowed double single bits)) where
-  pub narrower_written : (q : ℕ) → got ≡ N32.TheVariants.Pattern q → f32_bytes q ≡ f64_bytes bits
-  narrower_written q h = f64_short bits q (kept32 (narrowed double single bits) q (sym g ∙ h))
+module _ (bits : ℕ) (got : Option ℕ) (g : got ≡ narrowed double single bits) where
+  pub narrower_written : (q : ℕ) → got ≡ Some q → f32_bytes q ≡ f64_bytes bits
+  narrower_written q h = f64_short bits q (sym g ∙ h)
 
-  pub double_written : got ≡ N32.TheVariants.None → 0x67 ∷ to_le 8 bits ≡ f64_bytes bits
+  pub double_written : got ≡ None → 0x67 ∷ to_le 8 bits ≡ f64_bytes bits
   unfolding float_bytes header_bytes
-  double_written h = f64_own bits (lost32 (narrowed double single bits) (sym g ∙ h))
+  double_written h = f64_own bits (sym g ∙ h)
 
 -- of a value, by its pattern; and of a float, by its variant
 module _ (x : Ieee.Float) where
@@ -210,12 +205,12 @@ module _ (x : Float) (value : Ieee.Float) where
   unfolding is_zero
   small_f32 small s e = cc
 
-  pub narrowed_f64 : (answer : AsF32) → answer ≡ if_equal value (narrowed_meaning single (float_meaning value)) →
+  pub narrowed_f64 : (answer : Result Ieee.Float Refusal) → answer ≡ if_equal value (narrowed_meaning single (float_meaning value)) →
       x ≡ F.F64 value → answer ≡ as_f32 x
   unfolding as_f32
   narrowed_f64 answer a e = cc
 
-  pub own_f32 : x ≡ F.F32 value → AsF32.Value value ≡ as_f32 x
+  pub own_f32 : x ≡ F.F32 value → Ok value ≡ as_f32 x
   unfolding as_f32
   own_f32 e = cc
 

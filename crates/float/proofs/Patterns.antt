@@ -1,16 +1,14 @@
 -- A binary64 value by its pattern: it has an equal binary32 value exactly if its pattern narrows.
+use Rattle.std.specs.Prelude.{Ok, Err, Option, Some, None}
 use mathlib.Core.Path.{◌≡◌, refl, sym, ap, ◌∙◌, subst}
 use Prim.Native.Nat.{ℕ, ◌*◌, ◌<◌}
 use lib.Dec.{T}
 use lib.Ieee.{Float, binary32, binary64, fits, of_bits, to_bits}
 use lib.Ieee.Bits.{of_bits-to_bits, to_bits-lt}
 use Rattle.types.specs.declared.Refusal.TheVariants as R
-use Rattle.types.specs.declared.AsF32.{AsF32}
-use Rattle.binary.specs.declared.Narrowed32 as N32
 use Rattle.binary.specs.Formats.{Layout, single, double, sign_weight, Meaning, finite, infinite, nan, meaning}
-use Rattle.binary.specs.Conversions.{kept, narrowed, narrowed_meaning, answer32}
+use Rattle.binary.specs.Conversions.{narrowed, narrowed_meaning}
 use Rattle.binary.specs.Floats.{float_meaning, plain}
-use Rattle.binary.proofs.Laws.{kept32, lost32}
 use Rattle.binary.proofs.Narrowing.{narrowed_by}
 use Rattle.binary.proofs.Values.{to_bits_means, narrowed_value}
 use Rattle.float.specs.Values.{if_equal}
@@ -31,16 +29,16 @@ module _ (x : Float) (F : T (fits binary64 x)) where
   own : (b : ℕ) → b ≡ to_bits binary64 x → b < 2 * sign_weight double
   own b e = subst (λ (n : ℕ). n < 2 * sign_weight double) (sym e) (to_bits-lt binary64 x F)
 
-  module _ (b : ℕ) (r : N32.Narrowed32) (e : b ≡ to_bits binary64 x) (a : r ≡ answer32 (narrowed double single b)) where
-    pub narrow_taken : (q : ℕ) (v : Float) → r ≡ N32.TheVariants.Pattern q → v ≡ of_bits binary32 q →
-        AsF32.Value v ≡ if_equal x (narrowed_meaning single (float_meaning x))
+  module _ (b : ℕ) (r : Option ℕ) (e : b ≡ to_bits binary64 x) (a : r ≡ narrowed double single b) where
+    pub narrow_taken : (q : ℕ) (v : Float) → r ≡ Some q → v ≡ of_bits binary32 q →
+        Ok v ≡ if_equal x (narrowed_meaning single (float_meaning x))
     narrow_taken q v h w =
-        let n : narrowed double single b ≡ kept q = kept32 (narrowed double single b) q (sym a ∙ h) in
-        ap AsF32.Value (w ∙ narrowed_value b q (own b e) n ∙ ap (of_bits binary64) e ∙ of_bits-to_bits binary64 x F)
+        let n : narrowed double single b ≡ Some q = sym a ∙ h in
+        ap Ok (w ∙ narrowed_value b q (own b e) n ∙ ap (of_bits binary64) e ∙ of_bits-to_bits binary64 x F)
         ∙ ap (if_equal x) (sym n ∙ ap (narrowed double single) e ∙ narrowed_means)
 
-    pub narrow_lost : r ≡ N32.TheVariants.None →
-        AsF32.Refused R.ImpreciseCastWouldLoseData ≡ if_equal x (narrowed_meaning single (float_meaning x))
+    pub narrow_lost : r ≡ None →
+        Err R.ImpreciseCastWouldLoseData ≡ if_equal x (narrowed_meaning single (float_meaning x))
     narrow_lost h =
-        ap (if_equal x) (sym (lost32 (narrowed double single b) (sym a ∙ h)) ∙ ap (narrowed double single) e
+        ap (if_equal x) (sym (sym a ∙ h) ∙ ap (narrowed double single) e
         ∙ narrowed_means)

@@ -1,5 +1,6 @@
 -- What the float writers write reads back, with anything before and after, under every way: the header as kind Float
 -- and its count less 1, and then the float, of the same value, or for a NaN with the same bits.
+use Rattle.std.specs.Prelude.{Ok}
 use mathlib.Core.Path.{◌≡◌, refl, sym, ap, ◌∙◌, subst}
 use mathlib.Core.List.{List, ◌++◌, append_assoc}
 use Prim.Native.Nat.{ℕ, suc, ◌+◌, ◌-◌, ◌^◌, ◌≤◌, ◌<◌}
@@ -13,8 +14,6 @@ use Rattle.types.specs.declared.Way.{Way}
 use Rattle.types.specs.declared.Kind.TheVariants as K
 use Rattle.types.specs.declared.Float.{Float}
 use Rattle.types.specs.declared.Float.TheVariants as F
-use Rattle.types.specs.declared.HeaderAnswer.TheVariants as H
-use Rattle.types.specs.declared.FloatAnswer.TheVariants as FA
 use Rattle.header.specs.Header.{header_bytes, header_from}
 use Rattle.header.proofs.RoundTrip.{header_back}
 use Rattle.little.specs.Le.{to_le, number_at}
@@ -42,14 +41,14 @@ bytes_length c b a = let h = (header_one c a).0 in let l = length-append (header
 -- the header of what stands in front of anything
 pub head_back : (way : Way) (c b : ℕ) (before after : List ℕ) → Allowed c
     → header_from way (before ++ (float_bytes c b ++ after)) (length before)
-    ≡ H.Read (record { 0 = length before + 1 }) K.Float (c - 1)
+    ≡ Ok (record { 0 = length before + 1 }, K.Float, c - 1)
 unfolding float_bytes
 head_back way c b before after a =
     let h = header_one c a in
     ap (λ (l : List ℕ). header_from way (before ++ l) (length before))
     (append_assoc (header_bytes K.Float (c - 1)) (to_le c b) after)
     ∙ header_back way K.Float (c - 1) before (to_le c b ++ after) h.1
-    ∙ ap (λ (n : ℕ). H.Read (record { 0 = length before + n }) K.Float (c - 1)) h.0
+    ∙ ap (λ (n : ℕ). Ok (record { 0 = length before + n }, K.Float, c - 1)) h.0
 
 -- its number
 number_back : (c b : ℕ) (before after : List ℕ) → Allowed c → b < 256 ^ c →
@@ -72,19 +71,19 @@ past n c l e = omega arith
 -- and the float
 pub body_back : (way : Way) (c b : ℕ) (before after : List ℕ) → Allowed c → b < 256 ^ c
     → float_body way (before ++ (float_bytes c b ++ after)) (length before + 1) c
-    ≡ FA.Read (record { 0 = length before + length (float_bytes c b) }) (float_of c b) b
+    ≡ Ok (record { 0 = length before + length (float_bytes c b) }, float_of c b, b)
 body_back way c b before after a h =
     let s : List ℕ = before ++ (float_bytes c b ++ after) in
     let whole : length s ≡ length before + (length (float_bytes c b) + length after) = simp length-append in
     sym (body_whole way s (length before + 1) c b (float_of c b) (sym (number_back c b before after a h)) refl
     (subst (λ (n : ℕ). length before + 1 + c ≤ n) (sym whole)
     (inside (length before) c (length (float_bytes c b)) (length after) (bytes_length c b a))))
-    ∙ ap (λ (n : ℕ). FA.Read (record { 0 = n }) (float_of c b) b)
+    ∙ ap (λ (n : ℕ). Ok (record { 0 = n }, float_of c b, b))
     (past (length before) c (length (float_bytes c b)) (bytes_length c b a))
 
 pub from_back : (way : Way) (c b : ℕ) (before after : List ℕ) → Allowed c → b < 256 ^ c
     → float_from way (before ++ (float_bytes c b ++ after)) (length before + 1) K.Float c
-    ≡ FA.Read (record { 0 = length before + length (float_bytes c b) }) (float_of c b) b
+    ≡ Ok (record { 0 = length before + length (float_bytes c b) }, float_of c b, b)
 from_back way c b before after a h =
     sym (from_body way (before ++ (float_bytes c b ++ after)) (length before + 1) c K.Float refl (is_allowed c a))
     ∙ body_back way c b before after a h
@@ -93,9 +92,9 @@ from_back way c b before after a h =
 -- sign and magnitude, and that a NaN's bits are
 pub written_back : (way : Way) (own bits : ℕ) (bytes before after : List ℕ) (S : Stored own bits bytes)
     → (header_from way (before ++ (bytes ++ after)) (length before)
-    ≡ H.Read (record { 0 = length before + 1 }) K.Float (S.count - 1))
+    ≡ Ok (record { 0 = length before + 1 }, K.Float, S.count - 1))
     × (float_from way (before ++ (bytes ++ after)) (length before + 1) K.Float S.count
-    ≡ FA.Read (record { 0 = length before + length bytes }) (float_of S.count S.stored) S.stored)
+    ≡ Ok (record { 0 = length before + length bytes }, float_of S.count S.stored, S.stored))
 written_back way own bits bytes before after S =
     let a = allowed_is S.count S.its_count in
     rw S.its_bytes (

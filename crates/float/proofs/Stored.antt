@@ -1,5 +1,6 @@
 -- What the writers store for a pattern: the same value, in the fewest bytes; for a NaN the same bits at the same width.
 -- Over every count: a writer of a width is one case. Rests on the laws of narrowing and widening.
+use Rattle.std.specs.Prelude.{Option, Some, None}
 use mathlib.Core.Path.{◌≡◌, refl, sym, ap, ◌∙◌, subst}
 use mathlib.Core.Bool.{Bool, true, false≢true}
 use mathlib.Core.List.{List}
@@ -10,7 +11,7 @@ use lib.Ieee.{binary32, binary64, of_bits}
 use Rattle.types.specs.Forms.{allowed_float}
 use Rattle.binary.specs.Formats.{Layout, half, single, double, sign_weight, Meaning, finite, infinite, nan, meaning}
 use Rattle.binary.specs.Formats.{NotNan, SameValue}
-use Rattle.binary.specs.Conversions.{with_sign, infinity, Narrowed, kept, lost, widened, narrowed}
+use Rattle.binary.specs.Conversions.{with_sign, infinity, widened, narrowed}
 use Rattle.binary.specs.Floats.{float_meaning, plain}
 use Rattle.binary.proofs.Patterns.{one_pattern}
 use Rattle.binary.proofs.Widths.{half-single}
@@ -101,13 +102,13 @@ number_of_lem : (m n : Meaning) → m ≡ n → NotNan n → NotNan m
 number_of_lem m n e k = subst NotNan (sym e) k
 
 -- a NaN narrows to nothing
-nan-lost : (from to : Layout) (b q : ℕ) (s : Bool) (t : ℕ) → narrowed from to b ≡ kept q → meaning from b ≡ nan s t → ⊥
-nan-lost from to b q s t h e = let l : narrowed from to b ≡ lost = narrowed-nan from to b s t e in false≢true cc
+nan-lost : (from to : Layout) (b q : ℕ) (s : Bool) (t : ℕ) → narrowed from to b ≡ Some q → meaning from b ≡ nan s t → ⊥
+nan-lost from to b q s t h e = let l : narrowed from to b ≡ None = narrowed-nan from to b s t e in false≢true cc
 
 -- ---- a binary32 pattern
 
 module _ (b : ℕ) (B : b < 256 ^ 4) where
-  single_as_half : (q : ℕ) → narrowed single half b ≡ kept q → Stored 4 b (f32_bytes b)
+  single_as_half : (q : ℕ) → narrowed single half b ≡ Some q → Stored 4 b (f32_bytes b)
   single_as_half q h =
       let v = narrowed_sound single half b q h in
       record {
@@ -122,19 +123,19 @@ module _ (b : ℕ) (B : b < 256 ^ 4) where
         fewest = λ c p a r n e. least c a;
       }
 
-  single-fewest : narrowed single half b ≡ lost → (c q : ℕ) → Allowed c → q < 256 ^ c → NotNan (meaning single b) →
+  single-fewest : narrowed single half b ≡ None → (c q : ℕ) → Allowed c → q < 256 ^ c → NotNan (meaning single b) →
       meaning (layout_at c) q ≡ meaning single b → 4 ≤ c
   single-fewest h c q (two e) r n m =
       absurd (narrowed-lost single half b h q (at_count c 2 q e r, n, at_layout c 2 q (meaning single b) e m))
   single-fewest h c q (four e) r n m = omega arith
   single-fewest h c q (eight e) r n m = omega arith
 
-  single_as_single : narrowed single half b ≡ lost → Stored 4 b (f32_bytes b)
+  single_as_single : narrowed single half b ≡ None → Stored 4 b (f32_bytes b)
   single_as_single h = stored_own 4 b (f32_bytes b) (four refl) B (sym (f32_own b h)) (single-fewest h)
 
-  single_by : (n : Narrowed) → narrowed single half b ≡ n → Stored 4 b (f32_bytes b)
-  single_by (kept q) h = single_as_half q h
-  single_by lost h = single_as_single h
+  single_by : (n : Option ℕ) → narrowed single half b ≡ n → Stored 4 b (f32_bytes b)
+  single_by (Some q) h = single_as_half q h
+  single_by None h = single_as_single h
 
   pub stored_single : Stored 4 b (f32_bytes b)
   stored_single = single_by (narrowed single half b) refl
@@ -142,7 +143,7 @@ module _ (b : ℕ) (B : b < 256 ^ 4) where
 -- ---- a binary64 pattern
 
 module _ (b : ℕ) (B : b < 256 ^ 8) where
-  module _ (q : ℕ) (h : narrowed double single b ≡ kept q) (S : Stored 4 q (f32_bytes q)) where
+  module _ (q : ℕ) (h : narrowed double single b ≡ Some q) (S : Stored 4 q (f32_bytes q)) where
     narrower : SameValue double single b q
     narrower = narrowed_sound double single b q h
 
@@ -160,7 +161,7 @@ module _ (b : ℕ) (B : b < 256 ^ 8) where
           (e ∙ sym narrower.2);
     }
 
-  double-fewest : narrowed double single b ≡ lost → (c q : ℕ) → Allowed c → q < 256 ^ c → NotNan (meaning double b) →
+  double-fewest : narrowed double single b ≡ None → (c q : ℕ) → Allowed c → q < 256 ^ c → NotNan (meaning double b) →
       meaning (layout_at c) q ≡ meaning double b → 8 ≤ c
   double-fewest h c q (two e) r n m =
       let m' : meaning half q ≡ meaning double b = at_layout c 2 q (meaning double b) e m in
@@ -171,12 +172,12 @@ module _ (b : ℕ) (B : b < 256 ^ 8) where
       absurd (narrowed-lost double single b h q (at_count c 4 q e r, n, at_layout c 4 q (meaning double b) e m))
   double-fewest h c q (eight e) r n m = omega arith
 
-  double_as_double : narrowed double single b ≡ lost → Stored 8 b (f64_bytes b)
+  double_as_double : narrowed double single b ≡ None → Stored 8 b (f64_bytes b)
   double_as_double h = stored_own 8 b (f64_bytes b) (eight refl) B (sym (f64_own b h)) (double-fewest h)
 
-  double_by : (n : Narrowed) → narrowed double single b ≡ n → Stored 8 b (f64_bytes b)
-  double_by (kept q) h = double_as_single q h (stored_single q (narrowed_sound double single b q h).0)
-  double_by lost h = double_as_double h
+  double_by : (n : Option ℕ) → narrowed double single b ≡ n → Stored 8 b (f64_bytes b)
+  double_by (Some q) h = double_as_single q h (stored_single q (narrowed_sound double single b q h).0)
+  double_by None h = double_as_double h
 
   pub stored_double : Stored 8 b (f64_bytes b)
   stored_double = double_by (narrowed double single b) refl
@@ -217,7 +218,7 @@ one_form own bits own' bits' bytes bytes' S S' n e =
 
 module _ (own bits : ℕ) (bytes : List ℕ) (S : Stored own bits bytes) where
   -- a number that binary16 has takes 2 bytes, its pattern there
-  pub takes_two : (q : ℕ) → narrowed (layout_at own) half bits ≡ kept q → bytes ≡ float_bytes 2 q
+  pub takes_two : (q : ℕ) → narrowed (layout_at own) half bits ≡ Some q → bytes ≡ float_bytes 2 q
   takes_two q h =
       let v = narrowed_sound (layout_at own) half bits q h in
       one_form own bits 2 q bytes (float_bytes 2 q) S (stored_half q v.0) v.1 (sym v.2)

@@ -2,7 +2,7 @@
 -- binary16 value, else 4; `write_f64` uses 2, else 4, else 8. Both zeros and both infinities take 2 bytes. A NaN is
 -- written at its own width with its own bits." `narrowed` answers the narrower pattern of the same sign and magnitude,
 -- if there is one, and none of a NaN; that these are the fewest bytes is proved in `proofs/Stored.antt`.
-use Rattle.std.specs.Prelude.{ℕ, ◌-◌, List, ◌++◌}
+use Rattle.std.specs.Prelude.{ℕ, ◌-◌, List, ◌++◌, Option, Some, None}
 use Rattle.std.specs.Float.{binary32, binary64}
 use Rattle.std.specs.Float.Ieee.{to_bits}
 use Rattle.types.specs.declared.Kind.TheVariants as K
@@ -11,16 +11,16 @@ use Rattle.types.specs.declared.Float.TheVariants as F
 use Rattle.header.specs.Header.{header_bytes}
 use Rattle.little.specs.Le.{to_le}
 use Rattle.binary.specs.Formats.{half, single, double}
-use Rattle.binary.specs.Conversions.{Narrowed, kept, lost, narrowed}
+use Rattle.binary.specs.Conversions.{narrowed}
 
 -- a float of that many bytes that hold the bits: its header, whose argument is the count less 1, and then the bytes
 unfoldable pub float_bytes : ℕ → ℕ → List ℕ
 float_bytes count bits = header_bytes K.Float (count - 1) ++ to_le count bits
 
 -- the narrower form if there is one, else the wider
-abbrev pub narrowest : Narrowed → (ℕ → List ℕ) → List ℕ → List ℕ
-narrowest (kept q) narrower wider = narrower q
-narrowest lost narrower wider = wider
+abbrev pub narrowest : Option ℕ → (ℕ → List ℕ) → List ℕ → List ℕ
+narrowest (Some q) narrower wider = narrower q
+narrowest None narrower wider = wider
 
 -- "`write_f32` uses 2 bytes exactly if the value is a binary16 value, else 4": of a binary32 pattern
 unfoldable pub f32_bytes : ℕ → List ℕ

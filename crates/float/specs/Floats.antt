@@ -1,9 +1,10 @@
 -- Floats read from bytes. Document 01, "Bytes of an atom": "Float: counts 2, 4, 8. Two bytes read as an F32", and
 -- "Refusals by number". Beside a float's value stand its stored bits, since a NaN's sign and payload are in these
 -- alone.
-use Rattle.std.specs.Prelude.{ℕ, ◌+◌, Bool, List, eqb, length}
+use Rattle.std.specs.Prelude.{ℕ, ◌+◌, Bool, List, eqb, length, Ok, Err}
 use Rattle.std.specs.Float.{binary32, binary64}
 use Rattle.std.specs.Float.Ieee.{of_bits}
+use Rattle.types.specs.Answers.{FloatAnswer}
 use Rattle.types.specs.Choice.{pick}
 use Rattle.types.specs.Counters.{place_in}
 use Rattle.types.specs.Kinds.{kind_code}
@@ -15,8 +16,6 @@ use Rattle.types.specs.declared.Kind.TheVariants as K
 use Rattle.types.specs.declared.Float.{Float}
 use Rattle.types.specs.declared.Float.TheVariants as F
 use Rattle.types.specs.declared.Refusal.TheVariants as R
-use Rattle.types.specs.declared.FloatAnswer.{FloatAnswer}
-use Rattle.types.specs.declared.FloatAnswer.TheVariants as FA
 use Rattle.little.specs.Le.{number_at}
 use Rattle.binary.specs.Formats.{Layout, half, single, double}
 use Rattle.binary.specs.Conversions.{widened}
@@ -40,8 +39,8 @@ float_kind kind = eqb (kind_code kind) 3
 unfoldable pub float_body : Way → List ℕ → ℕ → ℕ → FloatAnswer
 float_body way source at count =
     up_to way (length source) (at + count)
-    (λ p. FA.Read (record { 0 = p }) (float_of count (number_at count source at)) (number_at count source at))
-    (FA.Refused (record { 0 = length source }) R.Eof)
+    (λ p. Ok (record { 0 = p }, float_of count (number_at count source at), number_at count source at))
+    (Err (record { 0 = length source }, R.Eof))
 
 -- "7 UnexpectedKind(kind, wanted): number read asked of another kind (wanted: Float for float reads), before the count
 -- is judged: unchanged"; "6 UnsupportedByteCount(kind, count): number width not allowed"; "A number read asked for
@@ -50,8 +49,8 @@ unfoldable pub float_from : Way → List ℕ → ℕ → Kind → ℕ → FloatA
 float_from way source at kind count =
     pick (float_kind kind)
     (pick (allowed_float count) (float_body way source at count)
-    (FA.Refused (record { 0 = at }) (unsupported K.Float count)))
-    (FA.Refused (record { 0 = at }) (R.UnexpectedKind kind K.Float))
+    (Err (record { 0 = at }, unsupported K.Float count)))
+    (Err (record { 0 = at }, R.UnexpectedKind kind K.Float))
 
 -- a float read at any place
 abbrev pub float_read : Way → List ℕ → ℕ → Kind → ℕ → FloatAnswer

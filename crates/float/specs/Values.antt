@@ -1,14 +1,14 @@
 -- What a float answers of itself. Document 01, "Casts": "A float is an F32 or an F64 and carries its value." Both
 -- widths are read as one meaning: a sign and a magnitude in units of 2^-1074, an infinity, or the NaN.
-use Rattle.std.specs.Prelude.{ℕ, ◌-◌, ◌^◌, Bool, false, ◌&&◌, ◌||◌, leb, eqb}
+use Rattle.std.specs.Prelude.{ℕ, ◌-◌, ◌^◌, Bool, false, ◌&&◌, ◌||◌, leb, eqb, Result, Ok, Err, Option, Some, None}
 use Rattle.std.specs.Bool.{beq}
 use Rattle.std.specs.Float.Ieee as Ieee
+use Rattle.types.specs.declared.Refusal.{Refusal}
 use Rattle.types.specs.declared.Float.{Float}
 use Rattle.types.specs.declared.Float.TheVariants as F
 use Rattle.types.specs.declared.Refusal.TheVariants as R
-use Rattle.types.specs.declared.AsF32.{AsF32}
 use Rattle.binary.specs.Formats.{single, Meaning, finite, infinite, nan}
-use Rattle.binary.specs.Conversions.{Narrowed, kept, lost, narrowed_meaning}
+use Rattle.binary.specs.Conversions.{narrowed_meaning}
 use Rattle.binary.specs.Floats.{float_meaning}
 
 -- the value that a float carries; `as_f64`, since every binary32 value is a binary64 value
@@ -36,13 +36,13 @@ unfoldable pub is_zero : Float → Bool
 is_zero x = at_most (smallness x) (float_means x)
 
 -- a value that has an equal one in binary32, or the refusal
-abbrev pub if_equal : Ieee.Float → Narrowed → AsF32
-if_equal x (kept q) = AsF32.Value x
-if_equal x lost = AsF32.Refused R.ImpreciseCastWouldLoseData
+abbrev pub if_equal : Ieee.Float → Option ℕ → Result Ieee.Float Refusal
+if_equal x (Some q) = Ok x
+if_equal x None = Err R.ImpreciseCastWouldLoseData
 
 -- "`as_f32` of an F64 needs an equal value."
-unfoldable pub as_f32 : Float → AsF32
-as_f32 (F.F32 x) = AsF32.Value x
+unfoldable pub as_f32 : Float → Result Ieee.Float Refusal
+as_f32 (F.F32 x) = Ok x
 as_f32 (F.F64 x) = if_equal x (narrowed_meaning single (float_meaning x))
 
 -- IEEE 754: equal numbers, zeros of either sign among them; a NaN equals nothing

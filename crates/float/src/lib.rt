@@ -23,8 +23,7 @@ ghost use Rattle.float.specs.Values.{
   equal_floats,
 };
 
-use binary::{Narrowed16, Narrowed32};
-use types::{AsF32, Float, FloatAnswer, Kind, Place, Refusal, Way, Written};
+use types::{Float, FloatAnswer, Kind, Place, Refusal, Way};
 
 // The first byte of a float atom of 2, 4 or 8 bytes: its kind, and its count less 1.
 const HALF: u8 = 0x61;
@@ -37,12 +36,7 @@ const DOUBLE: u8 = 0x67;
 pub fn allowed(count: u64) -> bool
     ensures { result ≡ allowed_float count }
 {
-    match count {
-        2 => true,
-        4 => true,
-        8 => true,
-        _ => false,
-    }
+    matches!(count, 2 | 4 | 8)
 }
 
 // The float of that many bytes that hold the bits: a helper of readers, whose bits fit the count.
@@ -51,9 +45,9 @@ pub fn float_of(count: u64, bits: u64) -> Float
     ensures { result ≡ float_of count bits }
 {
     match count {
-        2 => return Float::F32(binary::f32_of_bits(binary::f16_to_f32_bits(bits as u16))),
-        4 => return Float::F32(binary::f32_of_bits(bits as u32)),
-        _ => return Float::F64(binary::f64_of_bits(bits)),
+        2 => Float::F32(binary::f32_of_bits(binary::f16_to_f32_bits(bits as u16))),
+        4 => Float::F32(binary::f32_of_bits(bits as u32)),
+        _ => Float::F64(binary::f64_of_bits(bits)),
     }
 }
 
@@ -63,9 +57,9 @@ pub fn stored_bits(source: &[u8], at: usize, count: u64) -> u64
     ensures { (result ≡ number_at count source.now at) × (result < 256 ^ count) }
 {
     match count {
-        2 => return little::le2(source, at),
-        4 => return little::le4(source, at),
-        _ => return little::le8(source, at),
+        2 => little::le2(source, at),
+        4 => little::le4(source, at),
+        _ => little::le8(source, at),
     }
 }
 
@@ -84,20 +78,20 @@ fn read_at(kind: Kind, count: u64, source: &[u8], at: usize, way: Way) -> FloatA
     ensures { result ≡ float_from way source.now at kind count }
 {
     if kind.code() != 3 {
-        return FloatAnswer::Refused(Place(at), Refusal::UnexpectedKind(kind, Kind::Float));
+        return Err((Place(at), Refusal::UnexpectedKind(kind, Kind::Float)));
     }
     if !allowed(count) {
-        return FloatAnswer::Refused(Place(at), Refusal::unsupported(Kind::Float, count));
+        return Err((Place(at), Refusal::unsupported(Kind::Float, count)));
     }
     if count <= (source.len() - at) as u64 {
         let bits = stored_bits(source, at, count);
-        return FloatAnswer::Read(Place(at + count as usize), float_of(count, bits), bits);
+        return Ok((Place(at + count as usize), float_of(count, bits), bits));
     }
     if way.is_exact() {
-        return FloatAnswer::Refused(Place(source.len()), Refusal::Eof);
+        return Err((Place(source.len()), Refusal::Eof));
     }
     let bits = filled_bits(source, at, count);
-    FloatAnswer::Read(Place(source.len()), float_of(count, bits), bits)
+    Ok((Place(source.len()), float_of(count, bits), bits))
 }
 
 // Reads a floating point number given the atom `kind` and the byte count, with its stored bits.
@@ -109,37 +103,37 @@ pub fn read_from(kind: Kind, count: u64, source: &[u8], place: Place, way: Way) 
 }
 
 // Writes a float of 4 bytes by its bits, in 2 bytes if it is a binary16 value. A NaN's bits are kept.
-pub fn write_f32_bits(out: &mut [u8], bits: u32) -> Written
+pub fn write_f32_bits(out: &mut [u8], bits: u32) -> Result<usize, Refusal>
     ensures value { result ≡ written_answer (f32_bytes bits) out.old }
     ensures out_after { out.new ≡ written_content (f32_bytes bits) out.old }
 {
     match binary::f32_to_f16_bits(bits) {
-        Narrowed16::Pattern(half) => return little::put2(out, HALF, half as u64),
-        Narrowed16::None => return little::put4(out, SINGLE, bits as u64),
+        Some(half) => little::put2(out, HALF, half as u64),
+        None => little::put4(out, SINGLE, bits as u64),
     }
 }
 
 // Writes a float of 8 bytes by its bits, in 2 or 4 bytes if it is a binary16 or a binary32 value. A NaN's bits are
 // kept.
-pub fn write_f64_bits(out: &mut [u8], bits: u64) -> Written
+pub fn write_f64_bits(out: &mut [u8], bits: u64) -> Result<usize, Refusal>
     ensures value { result ≡ written_answer (f64_bytes bits) out.old }
     ensures out_after { out.new ≡ written_content (f64_bytes bits) out.old }
 {
     match binary::f64_to_f32_bits(bits) {
-        Narrowed32::Pattern(single) => return write_f32_bits(out, single),
-        Narrowed32::None => return little::put8(out, DOUBLE, bits),
+        Some(single) => write_f32_bits(out, single),
+        None => little::put8(out, DOUBLE, bits),
     }
 }
 
 // Writes an atom with the given value; a NaN, which has no bits as a value, as the one with its quiet bit alone.
-pub fn write_f32(out: &mut [u8], value: f32) -> Written
+pub fn write_f32(out: &mut [u8], value: f32) -> Result<usize, Refusal>
     ensures value { result ≡ written_answer (f32_bytes (to_bits binary32 value)) out.old }
     ensures out_after { out.new ≡ written_content (f32_bytes (to_bits binary32 value)) out.old }
 {
     write_f32_bits(out, binary::f32_pattern(value))
 }
 
-pub fn write_f64(out: &mut [u8], value: f64) -> Written
+pub fn write_f64(out: &mut [u8], value: f64) -> Result<usize, Refusal>
     ensures value { result ≡ written_answer (f64_bytes (to_bits binary64 value)) out.old }
     ensures out_after { out.new ≡ written_content (f64_bytes (to_bits binary64 value)) out.old }
 {
@@ -147,36 +141,29 @@ pub fn write_f64(out: &mut [u8], value: f64) -> Written
 }
 
 // Writes this value using the smallest form possible.
-pub fn write_to(out: &mut [u8], value: Float) -> Written
+pub fn write_to(out: &mut [u8], value: Float) -> Result<usize, Refusal>
     ensures value { result ≡ written_answer (value_bytes value) out.old }
     ensures out_after { out.new ≡ written_content (value_bytes value) out.old }
 {
     match value {
-        Float::F64(float) => return write_f64(out, float),
-        Float::F32(float) => return write_f32(out, float),
+        Float::F64(float) => write_f64(out, float),
+        Float::F32(float) => write_f32(out, float),
     }
 }
 
-// Whether a binary32 value is at most 2^-23 away from zero.
+// Whether a binary32 value is at most 2^-23 away from zero. Each width has its own function, since one for both would
+// widen first and take the bounds as parameters, and is no plainer.
 fn is_small_f32(value: f32) -> bool
     ensures { result ≡ at_most 23 (float_meaning value) }
 {
-    if value <= f32::from_bits(0x3400_0000) {
-        f32::from_bits(0xB400_0000) <= value
-    } else {
-        false
-    }
+    value <= f32::from_bits(0x3400_0000) && f32::from_bits(0xB400_0000) <= value
 }
 
 // Whether a binary64 value is at most 2^-52 away from zero.
 fn is_small_f64(value: f64) -> bool
     ensures { result ≡ at_most 52 (float_meaning value) }
 {
-    if value <= f64::from_bits(0x3CB0_0000_0000_0000) {
-        f64::from_bits(0xBCB0_0000_0000_0000) <= value
-    } else {
-        false
-    }
+    value <= f64::from_bits(0x3CB0_0000_0000_0000) && f64::from_bits(0xBCB0_0000_0000_0000) <= value
 }
 
 // Returns true if the value contained is zero.
@@ -184,28 +171,28 @@ pub fn is_zero(x: Float) -> bool
     ensures { result ≡ is_zero x }
 {
     match x {
-        Float::F64(value) => return is_small_f64(value),
-        Float::F32(value) => return is_small_f32(value),
+        Float::F64(value) => is_small_f64(value),
+        Float::F32(value) => is_small_f32(value),
     }
 }
 
 // The equal binary32 value, if there is one.
-fn narrow(value: f64) -> AsF32
+fn narrow(value: f64) -> Result<f32, Refusal>
     ensures { result ≡ if_equal value (narrowed_meaning single (float_meaning value)) }
 {
-    match binary::f64_to_f32_bits(binary::f64_pattern(value)) {
-        Narrowed32::Pattern(bits) => return AsF32::Value(binary::f32_of_bits(bits)),
-        Narrowed32::None => return AsF32::Refused(Refusal::ImpreciseCastWouldLoseData),
-    }
+    let Some(bits) = binary::f64_to_f32_bits(binary::f64_pattern(value)) else {
+        return Err(Refusal::ImpreciseCastWouldLoseData);
+    };
+    Ok(binary::f32_of_bits(bits))
 }
 
 // Returns this number as an f32, if it can be done without losing precision.
-pub fn as_f32(x: Float) -> AsF32
+pub fn as_f32(x: Float) -> Result<f32, Refusal>
     ensures { result ≡ as_f32 x }
 {
     match x {
-        Float::F64(value) => return narrow(value),
-        Float::F32(value) => return AsF32::Value(value),
+        Float::F64(value) => narrow(value),
+        Float::F32(value) => Ok(value),
     }
 }
 
@@ -225,8 +212,8 @@ pub fn as_f64(x: Float) -> f64
     ensures { result ≡ float_value x }
 {
     match x {
-        Float::F64(value) => return value,
-        Float::F32(value) => return widen(value),
+        Float::F64(value) => value,
+        Float::F32(value) => widen(value),
     }
 }
 

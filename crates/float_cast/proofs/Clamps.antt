@@ -1,7 +1,7 @@
 -- A sign and a magnitude clamped to a signed width, by the two's complement that the code makes.
 use mathlib.Core.Path.{◌≡◌, refl, sym, ap, ◌∙◌, subst}
 use mathlib.Core.Bool.{Bool, true, false}
-use Prim.Native.Nat.{ℕ, zero, suc, ◌+◌, ◌-◌, ◌/◌, ◌^◌, ◌≤◌, ◌<◌}
+use Prim.Native.Nat.{ℕ, zero, suc, ◌+◌, ◌-◌, ◌/◌, ◌^◌, ◌≤◌, ◌<◌, min}
 use native.Mathlib.Omega.{arith}
 use lib.Dec.{ltb}
 use lib.IntN.{ℤ, pos, negsuc, neg_ℤ}
@@ -29,11 +29,8 @@ least_cases P a b f g = go (ltb a b) refl
     go true e = subst P (least_left a b (ltb-true a b e)) (f (ltb-true a b e))
     go false e = subst P (least_right a b (ltb-false a b e)) (g (ltb-false a b e))
 
-least_le : (a b : ℕ) → least a b ≤ b
-least_le a b = least_cases (λ (n : ℕ). n ≤ b) a b (λ h. omega arith) (λ h. omega arith)
-
-least_pos : (a b : ℕ) → 0 < a → 0 < b → 0 < least a b
-least_pos a b p q = least_cases (λ (n : ℕ). 0 < n) a b (λ h. p) (λ h. q)
+pub min_least : (a b : ℕ) → min a b ≡ least a b
+min_least a b = least_cases (λ (n : ℕ). min a b ≡ n) a b (λ h. omega arith) (λ h. omega arith)
 
 -- a bound above the last says nothing
 least-least : (n m b : ℕ) → b ≤ m → least (least n m) b ≡ least n b
@@ -71,33 +68,33 @@ pub clamped_none : (h : ℕ) (s : Bool) (a : ℕ) → a ≡ 0 → pos 0 ≡ clam
 clamped_none h s a e = clamped_zero h s ∙ ap (clamped h s) (sym e)
 
 -- the lesser of a magnitude and a bound: it is some, and within what the next step asks
-module _ (l a b : ℕ) (e : l ≡ least a b) where
+module _ (l a b : ℕ) (e : l ≡ min a b) where
   pub lesser_some : (a ≡ 0 → ⊥) → 0 < b → 0 < l
-  lesser_some n q = rw e (least_pos a b (omega arith) q)
+  lesser_some n q = omega arith
 
   pub lesser_less : (m : ℕ) → b ≤ m → l - 1 ≤ m
-  lesser_less m h = let k = least_le a b in omega arith
+  lesser_less m h = omega arith
 
   pub lesser_below : (m : ℕ) → b < m → l < m
-  lesser_below m h = let k = least_le a b in omega arith
+  lesser_below m h = omega arith
 
 -- what is read back is the clamped number: of a sign that is not set, and of one that is
 module _ (w : Width) (n h : ℕ) (s : Bool) (r : ℤ) (a l : ℕ) (f : SFits w r) where
-  pub clamped-up : s ≡ false → l ≡ least a (2 ^ h - 1) → r ≡ twos n l → 256 ^ n / 2 ≡ 2 ^ h → 0 < 2 ^ h →
+  pub clamped-up : s ≡ false → l ≡ min a (2 ^ h - 1) → r ≡ twos n l → 256 ^ n / 2 ≡ 2 ^ h → 0 < 2 ^ h →
       to_z w (of_z w r) ≡ clamped h s a
   clamped-up up e q half some =
-      let b : l ≤ 2 ^ h - 1 = rw e (least_le a (2 ^ h - 1)) in
-      to_z-of_z w r f ∙ q ∙ twos_low n l (omega arith) ∙ ap pos e ∙ ap (λ (x : Bool). clamped h x a) (sym up)
+      let b : l ≤ 2 ^ h - 1 = omega arith in
+      to_z-of_z w r f ∙ q ∙ twos_low n l (omega arith) ∙ ap pos (e ∙ min_least a (2 ^ h - 1)) ∙ ap (λ (x : Bool). clamped h x a) (sym up)
 
-  pub clamped-down : (v : ℕ) → s ≡ true → (a ≡ 0 → ⊥) → l ≡ least a (2 ^ h) → r ≡ twos n v →
+  pub clamped-down : (v : ℕ) → s ≡ true → (a ≡ 0 → ⊥) → l ≡ min a (2 ^ h) → r ≡ twos n v →
       v ≡ 256 ^ n - 1 - (l - 1) → 256 ^ n / 2 ≡ 2 ^ h → 256 ^ n ≡ 2 ^ h + 2 ^ h → 0 < 2 ^ h →
       to_z w (of_z w r) ≡ clamped h s a
   clamped-down v down p e q is half whole some =
-      let b : l ≤ 2 ^ h = rw e (least_le a (2 ^ h)) in
+      let b : l ≤ 2 ^ h = omega arith in
       let o : 0 < l = lesser_some l a (2 ^ h) e p some in
       let back : 256 ^ n - 1 - v ≡ l - 1 = omega arith in
       to_z-of_z w r f ∙ q ∙ twos_high n v (omega arith) ∙ ap negsuc back ∙ minus_is l o
-      ∙ ap (λ (x : ℕ). neg_ℤ (pos x)) e ∙ ap (λ (x : Bool). clamped h x a) (sym down)
+      ∙ ap (λ (x : ℕ). neg_ℤ (pos x)) (e ∙ min_least a (2 ^ h)) ∙ ap (λ (x : Bool). clamped h x a) (sym down)
 
 pub ruleset clamp_ends =
-    (clamped_none, lesser_some, lesser_less, lesser_below, clamped-up, clamped-down, least_left, least_right, rules)
+    (clamped_none, lesser_some, lesser_less, lesser_below, clamped-up, clamped-down, rules)

@@ -1,6 +1,9 @@
 -- The whole number of a binary64 magnitude: where its exponent puts the last digit. `S` is the significand, `x` the
 -- exponent's field less 1, so that the magnitude is S * 2 ^ x.
-use mathlib.Core.Path.{◌≡◌, sym, ap, ◌∙◌}
+use Rattle.std.specs.Prelude.{Option, Some, None}
+use Rattle.std.specs.Bool.{then_some}
+use mathlib.Core.Path.{◌≡◌, refl, sym, ap, ◌∙◌}
+use mathlib.Core.Bool.{Bool, true, false}
 use Prim.Native.Nat.{ℕ, zero, suc, ◌+◌, ◌-◌, ◌*◌, ◌/◌, ◌%◌, ◌^◌, ◌≤◌, ◌<◌}
 use native.Mathlib.Nat.{mul-one, mul_assoc, mul-pos, mul-mod_left, mul-div_cancel, mul-div-mul_right, div-add-mod'}
 use native.Mathlib.Nat.{mod-eq_of_lt, eq_of_mul-eq-mul_right, zero-mul, add-zero, le_trans, le_of_eq, lt_of_lt_of_le}
@@ -9,21 +12,21 @@ use native.Mathlib.Omega.{arith}
 use lib.Arith.{mod-mul}
 use lib.Pow.{pow-add, pow_pos, pow_mono, shl_lt, shl_exact, shr_le}
 use borrow.Author.Rules.{rules}
-use borrow.Author.Tests.{eq-eqb, ne_eqb}
+use lib.Dec.{eqb}
+use borrow.Author.Tests.{eq-eqb, ne_eqb, eqb-true, eqb-false}
 use Rattle.binary.specs.Formats.{double, smallests, magnitude}
 use Rattle.binary.proofs.Steps.{shift_back}
 use Rattle.float_cast.specs.Integral.{one, least}
 use Rattle.float_cast.specs.Steps.{most, whole_of}
-use Rattle.float_cast.specs.declared.Whole.{Whole}
 use Rattle.float_cast.proofs.Clamps.{least_left, least_right}
 
 -- ---- by the remainder and the quotient
 
-pub whole_number : (m n : ℕ) → m % one ≡ 0 → m / one ≡ n → whole_of m ≡ Whole.Found (least n most)
+pub whole_number : (m n : ℕ) → m % one ≡ 0 → m / one ≡ n → whole_of m ≡ Some (least n most)
 unfolding whole_of
-whole_number m n z q = rw (eq-eqb (m % one) 0 z) (ap (λ (x : ℕ). Whole.Found (least x most)) q)
+whole_number m n z q = rw (eq-eqb (m % one) 0 z) (ap (λ (x : ℕ). Some (least x most)) q)
 
-pub whole_lost : (m : ℕ) → (m % one ≡ 0 → ⊥) → whole_of m ≡ Whole.Lost
+pub whole_lost : (m : ℕ) → (m % one ≡ 0 → ⊥) → whole_of m ≡ None
 unfolding whole_of
 whole_lost m z = rw (ne_eqb (m % one) 0 z)
 
@@ -96,7 +99,7 @@ module _ (e t : ℕ) (some : 0 < e) (T : t < 2 ^ 52) where
   s_pos : 0 < 2 ^ 52 + t
   s_pos = omega arith
 
-  pub under_one : e < 1023 → Whole.Lost ≡ whole_of (magnitude double e t)
+  pub under_one : e < 1023 → None ≡ whole_of (magnitude double e t)
   under_one h =
       sym (ap whole_of (normal e t some)
       ∙ whole_lost ((2 ^ 52 + t) * 2 ^ (e - 1))
@@ -111,13 +114,13 @@ module _ (e t : ℕ) (some : 0 < e) (T : t < 2 ^ 52) where
     back : (2 ^ 52 + t) / 2 ^ (1075 - e) * 2 ^ (1075 - e) % 2 ^ 64 ≡ (2 ^ 52 + t) / 2 ^ (1075 - e) * 2 ^ (1075 - e)
     back = shift_back (2 ^ 52 + t) (1075 - e) 64 (omega arith)
 
-    pub digits_whole : (2 ^ 52 + t) / 2 ^ (1075 - e) * 2 ^ (1075 - e) % 2 ^ 64 ≡ 2 ^ 52 + t →
-        Whole.Found ((2 ^ 52 + t) / 2 ^ (1075 - e)) ≡ whole_of (magnitude double e t)
+    digits_whole : (2 ^ 52 + t) / 2 ^ (1075 - e) * 2 ^ (1075 - e) % 2 ^ 64 ≡ 2 ^ 52 + t →
+        Some ((2 ^ 52 + t) / 2 ^ (1075 - e)) ≡ whole_of (magnitude double e t)
     digits_whole s =
         let d = 1075 - e in
         let w : (2 ^ 52 + t) / 2 ^ d * 2 ^ d ≡ 2 ^ 52 + t = sym back ∙ s in
         let small : (2 ^ 52 + t) / 2 ^ d < most = small_quotient ((2 ^ 52 + t) / 2 ^ d) (shr_le (2 ^ 52 + t) d) in
-        ap Whole.Found (least_left ((2 ^ 52 + t) / 2 ^ d) most small)
+        ap Some (least_left ((2 ^ 52 + t) / 2 ^ d) most small)
         ∙ sym (ap whole_of (normal e t some)
         ∙ whole_number ((2 ^ 52 + t) * 2 ^ (e - 1)) ((2 ^ 52 + t) / 2 ^ d)
         (low_rest (2 ^ 52 + t) (e - 1) d 1074 parts ∙ ap (λ (n : ℕ). n * 2 ^ (e - 1)) (rest_none (2 ^ 52 + t) (2 ^ d) w)
@@ -127,8 +130,8 @@ module _ (e t : ℕ) (some : 0 < e) (T : t < 2 ^ 52) where
         small_quotient : (q : ℕ) → q ≤ 2 ^ 52 + t → q < most
         small_quotient q l = omega arith
 
-    pub digits_lost : ((2 ^ 52 + t) / 2 ^ (1075 - e) * 2 ^ (1075 - e) % 2 ^ 64 ≡ 2 ^ 52 + t → ⊥) →
-        Whole.Lost ≡ whole_of (magnitude double e t)
+    digits_lost : ((2 ^ 52 + t) / 2 ^ (1075 - e) * 2 ^ (1075 - e) % 2 ^ 64 ≡ 2 ^ 52 + t → ⊥) →
+        None ≡ whole_of (magnitude double e t)
     digits_lost w =
         let d = 1075 - e in
         sym (ap whole_of (normal e t some)
@@ -137,31 +140,42 @@ module _ (e t : ℕ) (some : 0 < e) (T : t < 2 ^ 52) where
         (eq_of_mul-eq-mul_right (2 ^ (e - 1)) (pow_pos (e - 1)) ((2 ^ 52 + t) % 2 ^ d) 0
         (sym (low_rest (2 ^ 52 + t) (e - 1) d 1074 parts) ∙ z ∙ sym (zero-mul (2 ^ (e - 1))))))))
 
+    -- by the test that no digit was lost
+    pub digits_end : (o : Option ℕ) →
+        o ≡ then_some (eqb ((2 ^ 52 + t) / 2 ^ (1075 - e) * 2 ^ (1075 - e) % 2 ^ 64) (2 ^ 52 + t)) ((2 ^ 52 + t) / 2 ^ (1075 - e)) →
+        o ≡ whole_of (magnitude double e t)
+    digits_end o q = q ∙ go (eqb ((2 ^ 52 + t) / 2 ^ (1075 - e) * 2 ^ (1075 - e) % 2 ^ 64) (2 ^ 52 + t)) refl
+      where
+        go : (found : Bool) → eqb ((2 ^ 52 + t) / 2 ^ (1075 - e) * 2 ^ (1075 - e) % 2 ^ 64) (2 ^ 52 + t) ≡ found →
+            then_some found ((2 ^ 52 + t) / 2 ^ (1075 - e)) ≡ whole_of (magnitude double e t)
+        go true f = digits_whole (eqb-true _ _ f)
+        go false f = digits_lost (eqb-false _ _ f)
+
   module _ (h : 1075 ≤ e) where
     raised : e - 1 ≡ e - 1075 + 1074
     raised = omega arith
 
-    from_one : whole_of (magnitude double e t) ≡ Whole.Found (least ((2 ^ 52 + t) * 2 ^ (e - 1075)) most)
+    from_one : whole_of (magnitude double e t) ≡ Some (least ((2 ^ 52 + t) * 2 ^ (e - 1075)) most)
     from_one =
         ap whole_of (normal e t some)
         ∙ whole_number ((2 ^ 52 + t) * 2 ^ (e - 1)) ((2 ^ 52 + t) * 2 ^ (e - 1075))
         (high_rest (2 ^ 52 + t) (e - 1) (e - 1075) 1074 raised)
         (high_quotient (2 ^ 52 + t) (e - 1) (e - 1075) 1074 raised)
 
-    pub moved_up : e < 1086 → Whole.Found ((2 ^ 52 + t) * 2 ^ (e - 1075) % 2 ^ 64) ≡ whole_of (magnitude double e t)
+    pub moved_up : e < 1086 → Some ((2 ^ 52 + t) * 2 ^ (e - 1075) % 2 ^ 64) ≡ whole_of (magnitude double e t)
     moved_up l =
-        ap Whole.Found (shl_exact 53 (e - 1075) 64 s_lt (omega arith)
+        ap Some (shl_exact 53 (e - 1075) 64 s_lt (omega arith)
         ∙ least_left ((2 ^ 52 + t) * 2 ^ (e - 1075)) most (below_one (2 ^ 52 + t) (e - 1075) 63 s_lt (omega arith)))
         ∙ sym from_one
 
-    pub too_large : 1086 ≤ e → Whole.Found most ≡ whole_of (magnitude double e t)
+    pub too_large : 1086 ≤ e → Some most ≡ whole_of (magnitude double e t)
     too_large l =
         let far : 2 ^ 63 ≤ (2 ^ 52 + t) * 2 ^ (e - 1075) =
         le_trans (pow_mono {i = 63} {j = 52 + (e - 1075)} (omega arith))
         (le_trans (le_of_eq (pow-add 2 52 (e - 1075))) (mul-le-mul_right (2 ^ (e - 1075)) (omega arith))) in
-        ap Whole.Found (least_right ((2 ^ 52 + t) * 2 ^ (e - 1075)) most far) ∙ sym from_one
+        ap Some (least_right ((2 ^ 52 + t) * 2 ^ (e - 1075)) most far) ∙ sym from_one
 
-pub ruleset whole_ends = (under_one, digits_whole, digits_lost, moved_up, too_large, rules)
+pub ruleset whole_ends = (under_one, digits_end, moved_up, too_large, rules)
 
 -- ---- a magnitude below 2 ^ (51 + E): the exponent's field is below E
 

@@ -1,14 +1,15 @@
 -- A float as an integer. Document 01, "Casts": "`as_integer` takes whole values, and magnitudes under those bounds as
 -- 0, and clamps to i32 for F32, i64 for F64; the answer is `From` of that i32 or i64. NaN and infinities are refused
 -- with 8."
-use Rattle.std.specs.Prelude.{ℕ, ◌-◌, ◌/◌, ◌%◌, ◌^◌, Bool, true, false, ltb, eqb, ℤ, pos, neg_ℤ}
+use Rattle.std.specs.Prelude.{ℕ, ◌-◌, ◌/◌, ◌%◌, ◌^◌, Bool, true, false, ltb, eqb, ℤ, pos, neg_ℤ, Result, Ok, Err}
 use mir.Syntax.{signed, Width, w32, w64}
 use mir.Val.{hbits}
+use Rattle.types.specs.declared.Integer.{Integer}
+use Rattle.types.specs.declared.Refusal.{Refusal}
 use Rattle.types.specs.Choice.{pick}
 use Rattle.types.specs.declared.Float.{Float}
 use Rattle.types.specs.declared.Float.TheVariants as F
 use Rattle.types.specs.declared.Refusal.TheVariants as R
-use Rattle.types.specs.declared.AsInteger.{AsInteger}
 use Rattle.binary.specs.Formats.{Meaning, finite, infinite, nan}
 use Rattle.binary.specs.Floats.{float_meaning}
 use Rattle.cast.specs.Froms.{from}
@@ -29,13 +30,13 @@ abbrev pub clamped : ℕ → Bool → ℕ → ℤ
 clamped h false n = pos (least n (2 ^ h - 1))
 clamped h true n = neg_ℤ (pos (least n (2 ^ h)))
 
-unfoldable pub integral : ℕ → Width → Meaning → AsInteger
+unfoldable pub integral : ℕ → Width → Meaning → Result Integer Refusal
 integral k w (finite s m) =
-    pick (takes k m) (AsInteger.Value (from signed w (clamped (hbits w) s (m / one))))
-    (AsInteger.Refused R.ImpreciseCastWouldLoseData)
-integral k w (infinite s) = AsInteger.Refused R.ImpreciseCastWouldLoseData
-integral k w (nan s t) = AsInteger.Refused R.ImpreciseCastWouldLoseData
+    pick (takes k m) (Ok (from signed w (clamped (hbits w) s (m / one))))
+    (Err R.ImpreciseCastWouldLoseData)
+integral k w (infinite s) = Err R.ImpreciseCastWouldLoseData
+integral k w (nan s t) = Err R.ImpreciseCastWouldLoseData
 
-unfoldable pub as_integer : Float → AsInteger
+unfoldable pub as_integer : Float → Result Integer Refusal
 as_integer (F.F32 x) = integral 23 w32 (float_meaning x)
 as_integer (F.F64 x) = integral 52 w64 (float_meaning x)

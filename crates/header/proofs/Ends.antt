@@ -1,5 +1,6 @@
 -- The ends of the readers of a header and of a signature, and of the functions that they call: what each has in hand at
 -- a return, and what it answers there.
+use Rattle.std.specs.Prelude.{Ok, Err}
 use mathlib.Core.Path.{◌≡◌, refl, ◌∙◌, sym, ap}
 use mathlib.Core.Bool.{Bool, true, false}
 use mathlib.Core.List.{List, [], ◌∷◌}
@@ -12,48 +13,21 @@ use lib.Bits.{bit_and}
 use lib.Dec.{lit<}
 use lib.ListN.{length, drop, get_or, drop_of_length-le}
 use lib.Seq.{drop-cons, get_or-drop}
+use Rattle.types.specs.Answers.{HeaderAnswer, VersionAnswer}
 use Rattle.types.specs.Counters.{place_in}
 use Rattle.types.specs.Kinds.{kind_from, kind_known}
 use Rattle.types.specs.Ways.{exact}
 use Rattle.types.specs.declared.Way.{Way}
 use Rattle.types.specs.declared.Kind.{Kind}
 use Rattle.types.specs.declared.Kind.TheVariants as K
-use Rattle.types.specs.declared.KindAnswer.{KindAnswer}
-use Rattle.types.specs.declared.KindAnswer.TheVariants as KA
 use Rattle.types.specs.declared.Place.{Place}
-use Rattle.types.specs.declared.Refusal.{Refusal}
 use Rattle.types.specs.declared.Refusal.TheVariants as R
-use Rattle.types.specs.declared.HeaderAnswer.{HeaderAnswer}
-use Rattle.types.specs.declared.HeaderAnswer.TheVariants as H
-use Rattle.types.specs.declared.VersionAnswer.{VersionAnswer}
-use Rattle.types.specs.declared.VersionAnswer.TheVariants as VA
 use Rattle.types.proofs.Ways.{at_way}
 use Rattle.header.specs.Header.{later_count, later_value, later_from, argument_from}
 use Rattle.header.specs.Header.{header_kind, header_length, header_argument, header_from, header_read}
 use Rattle.header.specs.Signature.{signature, big_endian, judged, version_from, version_read}
 use Rattle.header.proofs.Answers.{none_follow, one_length, one_argument, more_length, more_argument}
 use Rattle.header.proofs.Bits.{every}
-
--- a kind by its code, which is one of the eight, or none
-module _ (code : ℕ) (answer : KindAnswer) (e : answer ≡ kind_from code) where
-  pub kind_known_lem : (kind : Kind) → answer ≡ KA.Known kind → kind ≡ kind_known (kind_from code)
-  kind_known_lem kind k = ap kind_known (sym k ∙ e)
-
-  pub kind_refused : (why : Refusal) → answer ≡ KA.Refused why → K.Bytes ≡ kind_known (kind_from code)
-  kind_refused why r = ap kind_known (sym r ∙ e)
-
--- where the later bytes end at the latest: nine on, or at the source's end
-module _ (length at : ℕ) where
-  abbrev LaterEnd : ℕ → Type 0
-  LaterEnd end = (at ≤ end) × (end ≤ length) × (end ≤ at + 9) × (end < at + 9 → end ≡ length)
-
-  pub nine_on : 9 < length - at → LaterEnd (at + 9)
-  nine_on h = (omega arith, omega arith, omega arith, λ e. omega arith)
-
-  pub source_end : at ≤ length → length - at ≤ 9 → LaterEnd length
-  source_end m h = (m, omega arith, omega arith, λ e. refl)
-
-pub ruleset part_ends = (kind_known_lem, kind_refused, nine_on, source_end, rules)
 
 -- a header at a place
 module _ (way : Way) (s : List ℕ) (place at : ℕ) (w : at ≡ place_in (length s) place) where
@@ -66,7 +40,7 @@ module _ (way : Way) (s : List ℕ) (place at : ℕ) (w : at ≡ place_in (lengt
     kind_of_lem : header_kind (drop at s) ≡ kind
     kind_of_lem = rw (first, k) refl
 
-    pub header_short : get_or s at 0 / 16 % 2 ≡ 0 → H.Read (record { 0 = at + 1 }) kind low ≡ header_read way s place
+    pub header_short : get_or s at 0 / 16 % 2 ≡ 0 → Ok (record { 0 = at + 1 }, kind, low) ≡ header_read way s place
     unfolding header_from
     header_short e =
         let n : header_length (drop at s) ≡ 1 = rw first (one_length _ _ (none_follow _ e)) in
@@ -95,13 +69,13 @@ module _ (way : Way) (s : List ℕ) (place at : ℕ) (w : at ≡ place_in (lengt
     unfolding header_length
     past = rw none (omega arith)
 
-    pub header_eof : exactly ≡ true → H.Refused (record { 0 = at }) R.Eof ≡ header_read way s place
+    pub header_eof : exactly ≡ true → Err (record { 0 = at }, R.Eof) ≡ header_read way s place
     unfolding header_from
     header_eof y =
         let e : at ≡ length s = omega arith in
         cc (e, lt-leb (at + header_length (drop at s)) (length s) past)
 
-    pub header_past : exactly ≡ false → H.Read (record { 0 = at }) K.Special 0 ≡ header_read way s place
+    pub header_past : exactly ≡ false → Ok (record { 0 = at }, K.Special, 0) ≡ header_read way s place
     unfolding header_from header_argument
     header_past y =
         let e : at ≡ length s = omega arith in
@@ -118,11 +92,11 @@ pub ruleset header_ends = (header_short, header_long, header_eof, header_past, h
 
 -- a signature's word: it has every bit of 'Pot', or not
 module _ (word : ℕ) (place : Place) where
-  pub word_taken : bit_and word 0x506F7400 ≡ 0x506F7400 → VA.Read place (word % 256) ≡ judged word place
+  pub word_taken : bit_and word 0x506F7400 ≡ 0x506F7400 → Ok (place, word % 256) ≡ judged word place
   word_taken h = simp (sym (every 32 signature word (lit< tt)), eq-eqb _ _ h)
 
   pub word_refused : (bit_and word 0x506F7400 ≡ 0x506F7400 → ⊥) →
-      VA.Refused place R.IncompatibleVersion ≡ judged word place
+      Err (place, R.IncompatibleVersion) ≡ judged word place
   word_refused h = simp (sym (every 32 signature word (lit< tt)), ne_eqb _ _ h)
 
 pub ruleset judge_ends = (word_taken, word_refused, rules)
@@ -151,7 +125,7 @@ module _ (way : Way) (s : List ℕ) (place at : ℕ) (w : at ≡ place_in (lengt
 
   -- and in exact
   pub version_eof : (exactly : Bool) → length s - at < 4 → exactly ≡ exact way → exactly ≡ true →
-      VA.Refused (record { 0 = length s }) R.Eof ≡ version_read way s place
+      Err (record { 0 = length s }, R.Eof) ≡ version_read way s place
   unfolding version_from
   version_eof exactly h x y = cc (lt-leb (at + 4) (length s) (omega arith))
 

@@ -1,5 +1,6 @@
 -- The later bytes of a header, read: what holds before each turn of the loop, what a turn keeps of it, and what is
 -- answered at the ends.
+use Rattle.std.specs.Prelude.{Ok, Err}
 use mathlib.Core.Path.{◌≡◌, refl, ◌∙◌, sym, ap}
 use mathlib.Core.Bool.{Bool, true, false}
 use mathlib.Core.List.{List, [], ◌∷◌}
@@ -20,7 +21,6 @@ use Rattle.types.specs.Ways.{exact}
 use Rattle.types.specs.declared.Way.{Way}
 use Rattle.types.specs.declared.Kind.{Kind}
 use Rattle.types.specs.declared.Refusal.TheVariants as R
-use Rattle.types.specs.declared.HeaderAnswer.TheVariants as H
 use Rattle.header.specs.Header.{later_count, later_value, later_from, argument_from}
 
 -- the cases of the definitions
@@ -153,7 +153,7 @@ module _ (s : List ℕ) (at low end place arg offset : ℕ) (r : Reading s at lo
 
     -- it is the last
     pub reading_last : (way : Way) (kind : Kind) → get_or s place 0 % 128 ≡ get_or s place 0 →
-        H.Read (record { 0 = place + 1 }) kind (bit_or arg ((seven * 2 ^ offset) % 2 ^ 64)) ≡ later_from way s at kind low
+        Ok (record { 0 = place + 1 }, kind, bit_or arg ((seven * 2 ^ offset) % 2 ^ 64)) ≡ later_from way s at kind low
     unfolding later_from
     reading_last way kind last =
         let f = r.from in
@@ -172,14 +172,14 @@ module _ (s : List ℕ) (at low end place arg offset : ℕ) (r : Reading s at lo
 
   module _ (way : Way) (kind : Kind) (stop : end ≤ place) where
     -- nine bytes were read
-    pub reading_full : end - at ≡ 9 → H.Read (record { 0 = place }) kind arg ≡ later_from way s at kind low
+    pub reading_full : end - at ≡ 9 → Ok (record { 0 = end }, kind, arg) ≡ later_from way s at kind low
     unfolding later_from later_count later_value
     reading_full e =
         let u = r.until in
         let g = r.count in
         let z : 9 - (place - at) ≡ 0 = omega arith in
         let n : later_count (9 - (place - at)) (drop place s) ≡ 0 = rw z refl in
-        let p : place ≡ at + later_count 9 (drop at s) = omega arith in
+        let p : end ≡ at + later_count 9 (drop at s) = omega arith in
         let a = gathered arg (2 ^ offset) _ _ r.word r.value (rw z refl) in
         cc (p, a, le-leb (at + later_count 9 (drop at s)) (length s) (omega arith))
 
@@ -202,15 +202,18 @@ module _ (s : List ℕ) (at low end place arg offset : ℕ) (r : Reading s at lo
       past : length s < at + later_count 9 (drop at s)
       past = omega (arith, none_ahead.0, r.count, ended)
 
-      pub reading_eof : exactly ≡ true → H.Refused (record { 0 = place }) R.Eof ≡ later_from way s at kind low
-      unfolding later_from
-      reading_eof y = cc (ended, lt-leb (at + later_count 9 (drop at s)) (length s) past)
+      end_is : end ≡ length s
+      end_is = let u = r.until in omega (arith, ended)
 
-      pub reading_filled : exactly ≡ false → H.Read (record { 0 = place }) kind arg ≡ later_from way s at kind low
+      pub reading_eof : exactly ≡ true → Err (record { 0 = end }, R.Eof) ≡ later_from way s at kind low
+      unfolding later_from
+      reading_eof y = cc (end_is, lt-leb (at + later_count 9 (drop at s)) (length s) past)
+
+      pub reading_filled : exactly ≡ false → Ok (record { 0 = end }, kind, arg) ≡ later_from way s at kind low
       unfolding later_from
       reading_filled y =
           let a = gathered arg (2 ^ offset) _ _ r.word r.value none_ahead.1 in
-          cc (ended, a, lt-leb (at + later_count 9 (drop at s)) (length s) past)
+          cc (end_is, a, lt-leb (at + later_count 9 (drop at s)) (length s) past)
 
 pub ruleset reading_laws =
     (reading_begins, reading_turn, reading_last, reading_full, reading_eof, reading_filled, rules)

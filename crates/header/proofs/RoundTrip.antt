@@ -1,5 +1,6 @@
 -- What the header writer writes, each reader reads back as that kind and argument, just past it, whatever follows; a
 -- longer form of the later bytes reads alike; and the same for the signature.
+use Rattle.std.specs.Prelude.{Ok, Err}
 use mathlib.Core.Path.{◌≡◌, refl, ◌∙◌, sym, ap}
 use mathlib.Core.Bool.{Bool, true, false, ◌&&◌}
 use mathlib.Core.List.{List, [], ◌∷◌, ◌++◌}
@@ -15,8 +16,6 @@ use Rattle.types.specs.declared.Way.{Way}
 use Rattle.types.specs.declared.Kind.{Kind}
 use Rattle.types.specs.declared.Kind.TheVariants as K
 use Rattle.types.specs.declared.Refusal.TheVariants as R
-use Rattle.types.specs.declared.HeaderAnswer.TheVariants as H
-use Rattle.types.specs.declared.VersionAnswer.TheVariants as VA
 use Rattle.types.proofs.Ways.{up_to_within}
 use Rattle.header.specs.Header.{later_count, later_value, later_bytes, header_bytes, header_kind, header_argument, header_length, header_from}
 use Rattle.header.specs.Signature.{version_from, signature_bytes, big_endian, every_bit, judged}
@@ -178,7 +177,7 @@ back kind arg after l = back_at kind arg after (ltb arg 16) refl l
 -- THE ROUND TRIP of a header, under every way: what was written reads as that kind and argument, just past it
 pub header_back : (way : Way) (kind : Kind) (arg : ℕ) (before after : List ℕ) → arg < 2 ^ 64 →
     header_from way (before ++ (header_bytes kind arg ++ after)) (length before)
-    ≡ H.Read (record { 0 = length before + length (header_bytes kind arg) }) kind arg
+    ≡ Ok (record { 0 = length before + length (header_bytes kind arg) }, kind, arg)
 unfolding header_from
 header_back way kind arg before after l =
     let bytes : List ℕ = header_bytes kind arg in
@@ -190,8 +189,8 @@ header_back way kind arg before after l =
     let k : header_kind (drop (length before) s) ≡ kind = ap header_kind d ∙ r.its_kind in
     let whole : length s ≡ length before + (length bytes + length after) = simp length-append in
     up_to_within way (length s) (length before + header_length (drop (length before) s))
-    (λ p. H.Read (record { 0 = p }) (header_kind (drop (length before) s)) (header_argument (drop (length before) s)))
-    (H.Refused (record { 0 = length s }) R.Eof) (omega arith)
+    (λ p. Ok (record { 0 = p }, header_kind (drop (length before) s), header_argument (drop (length before) s)))
+    (Err (record { 0 = length s }, R.Eof)) (omega arith)
     ∙ rw (n, a, k) refl
 
 -- a signature's word is taken, with its version
@@ -240,7 +239,7 @@ own_bits_lem = refl
 -- THE ROUND TRIP of the signature, under every way: what was written is taken, with its version, just past it
 pub version_back : (way : Way) (version : ℕ) (before after : List ℕ) → version < 256 →
     version_from way (before ++ (signature_bytes version ++ after)) (length before)
-    ≡ VA.Read (record { 0 = length before + 4 }) version
+    ≡ Ok (record { 0 = length before + 4 }, version)
 unfolding version_from
 version_back way version before after h =
     let s : List ℕ = before ++ (signature_bytes version ++ after) in
@@ -253,5 +252,5 @@ version_back way version before after h =
     ∙ own_bits_lem in
     up_to_within way (length s) (length before + 4)
     (λ p. judged (big_endian (drop (length before) s)) (record { 0 = p }))
-    (VA.Refused (record { 0 = length s }) R.Eof) (omega arith)
+    (Err (record { 0 = length s }, R.Eof)) (omega arith)
     ∙ rw (d, every, low) refl

@@ -1,4 +1,5 @@
 -- The ends of the writers of a header and of a signature.
+use Rattle.std.specs.Prelude.{Result, Ok, Err}
 use mathlib.Core.Path.{◌≡◌, refl, ◌∙◌, sym, ap}
 use mathlib.Core.Bool.{Bool, true, false}
 use mathlib.Core.List.{List, [], ◌∷◌, ◌++◌}
@@ -13,8 +14,6 @@ use Rattle.types.specs.Kinds.{kind_code}
 use Rattle.types.specs.Refusals.{no_room}
 use Rattle.types.specs.declared.Kind.{Kind}
 use Rattle.types.specs.declared.Refusal.{Refusal}
-use Rattle.types.specs.declared.Written.{Written}
-use Rattle.types.specs.declared.Written.TheVariants as W
 use Rattle.lent.specs.Lent.{written_answer, written_content, copied_over}
 use Rattle.lent.proofs.Stores.{part_length, headed}
 use Rattle.lent.proofs.Ends.{short_answer, short_content, room_answer, room_content}
@@ -42,7 +41,7 @@ module _ (kind : Kind) (arg code : ℕ) (old : List ℕ) (h : arg < 16) (c : cod
   byte : (code * 32 + arg) ∷ [] ≡ header_bytes kind arg
   byte = rw (bytes_one kind arg h, c) refl
 
-  pub one_answer : (r : Written) → r ≡ written_answer ((code * 32 + arg) ∷ []) old →
+  pub one_answer : (r : Result ℕ Refusal) → r ≡ written_answer ((code * 32 + arg) ∷ []) old →
       r ≡ written_answer (header_bytes kind arg) old
   one_answer r w = w ∙ ap (λ (l : List ℕ). written_answer l old) byte
 
@@ -72,7 +71,7 @@ module _ (arg : ℕ) (old : List ℕ) (fits : Bool) (f : fits ≡ ltb (length (l
     short = let l = ltb-false (length (later_bytes 9 (arg / 16))) (length old) (sym f ∙ no) in omega arith
 
     pub long_refused : (later : ℕ) (why : Refusal) → later ≡ length (later_bytes 9 (arg / 16)) →
-        why ≡ no_room (later + 1) → W.Refused why ≡ written_answer (header_bytes kind arg) old
+        why ≡ no_room (later + 1) → Err why ≡ written_answer (header_bytes kind arg) old
     long_refused later why l e =
         let s = short in
         short_answer (header_bytes kind arg) old (later + 1) (omega arith) (length_more kind arg later h l) why e
@@ -90,7 +89,7 @@ module _ (arg : ℕ) (old : List ℕ) (fits : Bool) (f : fits ≡ ltb (length (l
       enough = let r = long_room in rw (bytes_more kind arg h) (omega arith)
 
       pub long_answer : (count : ℕ) → count ≡ length (later_bytes 9 (arg / 16)) + 1 →
-          W.Count count ≡ written_answer (header_bytes kind arg) old
+          Ok count ≡ written_answer (header_bytes kind arg) old
       long_answer count e =
           let n = e ∙ length_more kind arg (length (later_bytes 9 (arg / 16))) h refl in
           let r = enough in

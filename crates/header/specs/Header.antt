@@ -1,6 +1,7 @@
 -- The atom header, read and written. Document 01, "Bytes of an atom": "Header, first byte: kind in the top 3 bits, 0x10
 -- if more bytes follow, low 4 bits of the argument."
-use Rattle.std.specs.Prelude.{ℕ, zero, suc, ◌+◌, ◌*◌, ◌/◌, ◌%◌, ◌^◌, Bool, List, [], ◌∷◌, ltb, eqb, length, drop}
+use Rattle.std.specs.Prelude.{ℕ, zero, suc, ◌+◌, ◌*◌, ◌/◌, ◌%◌, ◌^◌, Bool, List, [], ◌∷◌, ltb, eqb, length, drop, Ok, Err}
+use Rattle.types.specs.Answers.{HeaderAnswer}
 use Rattle.types.specs.Choice.{pick}
 use Rattle.types.specs.Kinds.{kind_code, kind_from, kind_known}
 use Rattle.types.specs.Ways.{up_to}
@@ -8,8 +9,6 @@ use Rattle.types.specs.Counters.{place_in}
 use Rattle.types.specs.declared.Way.{Way}
 use Rattle.types.specs.declared.Kind.{Kind}
 use Rattle.types.specs.declared.Refusal.TheVariants as R
-use Rattle.types.specs.declared.HeaderAnswer.{HeaderAnswer}
-use Rattle.types.specs.declared.HeaderAnswer.TheVariants as H
 
 -- A header is read off the bytes from its place on. Past their end a byte reads as zero, so that both ways of reading
 -- share what follows: they differ only where the header ends past the source.
@@ -66,15 +65,15 @@ header_length bytes = pick (more_follow (first_byte bytes)) (suc (later_count mo
 unfoldable pub later_from : Way → List ℕ → ℕ → Kind → ℕ → HeaderAnswer
 later_from way source at kind low =
     up_to way (length source) (at + later_count most_later (drop at source))
-    (λ p. H.Read (record { 0 = p }) kind (argument_from low (later_value most_later (drop at source))))
-    (H.Refused (record { 0 = length source }) R.Eof)
+    (λ p. Ok (record { 0 = p }, kind, argument_from low (later_value most_later (drop at source))))
+    (Err (record { 0 = length source }, R.Eof))
 
 -- a header read at a place within the source; "4 Eof: end of slice"
 unfoldable pub header_from : Way → List ℕ → ℕ → HeaderAnswer
 header_from way source at =
     up_to way (length source) (at + header_length (drop at source))
-    (λ p. H.Read (record { 0 = p }) (header_kind (drop at source)) (header_argument (drop at source)))
-    (H.Refused (record { 0 = length source }) R.Eof)
+    (λ p. Ok (record { 0 = p }, header_kind (drop at source), header_argument (drop at source)))
+    (Err (record { 0 = length source }, R.Eof))
 
 -- a header read at any place
 abbrev pub header_read : Way → List ℕ → ℕ → HeaderAnswer

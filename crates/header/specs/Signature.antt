@@ -1,14 +1,13 @@
 -- The signature of a file. Document 01, "Bytes of an atom": "Signature: four bytes, big endian. It is taken if every
 -- bit of 0x506F7400 is set; the low byte is the version, any value. Writers write 0x506F7400 with the version."
-use Rattle.std.specs.Prelude.{ℕ, zero, suc, ◌+◌, ◌*◌, ◌/◌, ◌%◌, Bool, true, ◌&&◌, List, [], ◌∷◌, leb, length, drop, get_or}
+use Rattle.std.specs.Prelude.{ℕ, zero, suc, ◌+◌, ◌*◌, ◌/◌, ◌%◌, Bool, true, ◌&&◌, List, [], ◌∷◌, leb, length, drop, get_or, Ok, Err}
+use Rattle.types.specs.Answers.{VersionAnswer}
 use Rattle.types.specs.Choice.{pick}
 use Rattle.types.specs.Ways.{up_to}
 use Rattle.types.specs.Counters.{place_in}
 use Rattle.types.specs.declared.Way.{Way}
 use Rattle.types.specs.declared.Place.{Place}
 use Rattle.types.specs.declared.Refusal.TheVariants as R
-use Rattle.types.specs.declared.VersionAnswer.{VersionAnswer}
-use Rattle.types.specs.declared.VersionAnswer.TheVariants as VA
 
 -- 'Pot' and a zero byte
 abbrev pub signature : ℕ
@@ -27,7 +26,7 @@ every_bit (suc bits) mask word = leb (mask % 2) (word % 2) && every_bit bits (ma
 -- "It is taken if every bit of 0x506F7400 is set; the low byte is the version, any value."
 abbrev pub judged : ℕ → Place → VersionAnswer
 judged word place =
-    pick (every_bit 32 signature word) (VA.Read place (word % 256)) (VA.Refused place R.IncompatibleVersion)
+    pick (every_bit 32 signature word) (Ok (place, word % 256)) (Err (place, R.IncompatibleVersion))
 
 -- the signature read at a place within the source; "1 IncompatibleVersion: place past 4 bytes or at end", "4 Eof: end
 -- of slice"
@@ -35,7 +34,7 @@ unfoldable pub version_from : Way → List ℕ → ℕ → VersionAnswer
 version_from way source at =
     up_to way (length source) (at + 4)
     (λ p. judged (big_endian (drop at source)) (record { 0 = p }))
-    (VA.Refused (record { 0 = length source }) R.Eof)
+    (Err (record { 0 = length source }, R.Eof))
 
 -- the signature read at any place
 abbrev pub version_read : Way → List ℕ → ℕ → VersionAnswer

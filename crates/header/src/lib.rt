@@ -2,7 +2,7 @@
 // an atom"; format.rs, `write_atom_header` to `read_header`.
 #![tactic(auto)]
 
-ghost use Rattle.std.specs.Prelude.{◌≡◌, ◌∷◌, ◌≤◌, ◌<◌, ◌+◌, ◌*◌, ◌^◌, ltb, length, drop, get_or};
+ghost use Rattle.std.specs.Prelude.{◌≡◌, ◌∷◌, ◌≤◌, ◌<◌, ◌+◌, ◌*◌, ◌^◌, ltb, length};
 ghost use Rattle.types.specs.declared.Kind.{Kind};
 ghost use Rattle.types.specs.Kinds.{kind_from, kind_known};
 ghost use Rattle.types.specs.Ways.{unnamed_way};
@@ -10,9 +10,10 @@ ghost use Rattle.lent.specs.Lent.{written_answer, written_content, copied_over};
 ghost use Rattle.header.specs.Header.{header_read, header_bytes, later_bytes, later_from};
 ghost use Rattle.header.specs.Signature.{version_read, judged, signature_bytes};
 
-use types::{HeaderAnswer, Kind, KindAnswer, Place, Refusal, VersionAnswer, Way, Written};
+use types::{HeaderAnswer, Kind, Place, Refusal, VersionAnswer, Way};
 
-// How many bytes the later part of an argument takes.
+// How many bytes the later part of an argument takes. The loop ends by the number that is left and by no count, so that
+// a `for` is no plainer.
 fn later_length(rest: u64) -> usize
     requires { rest < 128 ^ 9 }
     ensures { (result ≡ length (later_bytes 9 rest)) × (result ≤ 9) }
@@ -20,7 +21,7 @@ fn later_length(rest: u64) -> usize
     let mut count: usize = 1;
     let mut arg = rest;
     while 128 <= arg {
-        arg = arg / 128;
+        arg /= 128;
         count += 1;
     }
     count
@@ -31,9 +32,10 @@ pub fn header_length(arg: u64) -> usize
     ensures { ((kind : Kind) → result ≡ length (header_bytes kind arg)) × (result ≤ 10) }
 {
     if arg < 16 {
-        return 1;
+        1
+    } else {
+        later_length(arg / 16) + 1
     }
-    later_length(arg / 16) + 1
 }
 
 // Whether a buffer of that length has room for a header of two bytes or more. Ten bytes are room for any, so that the
@@ -42,13 +44,11 @@ fn has_room(room: usize, rest: u64) -> bool
     requires { rest < 128 ^ 9 }
     ensures { result ≡ ltb (length (later_bytes 9 rest)) room }
 {
-    if 10 <= room {
-        return true;
-    }
-    later_length(rest) < room
+    10 <= room || later_length(rest) < room
 }
 
-// Writes the later part of an argument, 7 bits to a byte, lowest first, and answers how many bytes it took.
+// Writes the later part of an argument, 7 bits to a byte, lowest first, and answers how many bytes it took. A `for`
+// over the buffer is no plainer: it would need an answer where the buffer ends first, which cannot be.
 fn write_later(out: &mut [u8], rest: u64) -> usize
     requires { (rest < 128 ^ 9) × (length (later_bytes 9 rest) ≤ length out.old) }
     ensures value { (result ≡ length (later_bytes 9 rest)) × (result ≤ 9) }
@@ -58,7 +58,7 @@ fn write_later(out: &mut [u8], rest: u64) -> usize
     let mut arg = rest;
     while 128 <= arg {
         out[i] = (arg % 128 + 128) as u8;
-        arg = arg / 128;
+        arg /= 128;
         i += 1;
     }
     out[i] = arg as u8;
@@ -76,7 +76,7 @@ fn write_long(out: &mut [u8], first: u8, rest: u64) -> usize
 }
 
 // Writes an atom header: one byte where the argument is below 16, and up to ten.
-pub fn write_atom_header(out: &mut [u8], kind: Kind, arg: u64) -> Written
+pub fn write_atom_header(out: &mut [u8], kind: Kind, arg: u64) -> Result<usize, Refusal>
     ensures value { result ≡ written_answer (header_bytes kind arg) out.old }
     ensures out_after { out.new ≡ written_content (header_bytes kind arg) out.old }
 {
@@ -87,19 +87,16 @@ pub fn write_atom_header(out: &mut [u8], kind: Kind, arg: u64) -> Written
     let rest = arg / 16;
     if has_room(out.len(), rest) {
         let first = first_byte + 16 + (arg % 16) as u8;
-        return Written::Count(write_long(out, first, rest));
+        return Ok(write_long(out, first, rest));
     }
-    Written::Refused(Refusal::no_room(later_length(rest) + 1))
+    Err(Refusal::no_room(later_length(rest) + 1))
 }
 
 // The kind of a code of three bits.
 fn kind_of(code: u8) -> Kind
     ensures { result ≡ kind_known (kind_from code) }
 {
-    match Kind::from_u8(code) {
-        KindAnswer::Known(kind) => kind,
-        KindAnswer::Refused(_) => Kind::Bytes,
-    }
+    Kind::from_u8(code).unwrap_or(Kind::Bytes)
 }
 
 // Where the later bytes end at the latest: nine on, or at the source's end.
@@ -107,10 +104,7 @@ fn later_end(length: usize, at: usize) -> usize
     requires { at ≤ length }
     ensures { (at ≤ result) × (result ≤ length) × (result ≤ at + 9) × (result < at + 9 → result ≡ length) }
 {
-    if 9 < length - at {
-        return at + 9;
-    }
-    length
+    at + (length - at).min(9)
 }
 
 // Reads the later bytes of a header, whose kind and low 4 bits are known.
@@ -119,26 +113,24 @@ fn read_later(source: &[u8], at: usize, kind: Kind, low: u64, way: Way) -> Heade
     ensures { result ≡ later_from way source.now at kind low }
 {
     let end = later_end(source.len(), at);
-    let mut place = at;
     let mut arg = low;
     let mut offset: u32 = 4;
-    while place < end {
+    for place in at..end {
         let byte = source[place];
         let data = byte % 128;
-        arg = arg | (little::byte64(data) << offset);
+        arg |= little::byte64(data) << offset;
         offset += 7;
-        place += 1;
         if data == byte {
-            return HeaderAnswer::Read(Place(place), kind, arg);
+            return Ok((Place(place + 1), kind, arg));
         }
     }
     if end - at == 9 {
-        return HeaderAnswer::Read(Place(place), kind, arg);
+        return Ok((Place(end), kind, arg));
     }
     if way.is_exact() {
-        return HeaderAnswer::Refused(Place(place), Refusal::Eof);
+        return Err((Place(end), Refusal::Eof));
     }
-    HeaderAnswer::Read(Place(place), kind, arg)
+    Ok((Place(end), kind, arg))
 }
 
 // Reads an atom header (kind and argument) at a place, under a way.
@@ -151,14 +143,14 @@ pub fn read_atom_header_by(source: &[u8], place: Place, way: Way) -> HeaderAnswe
         let kind = kind_of(first_byte / 32);
         let low = little::byte64(first_byte % 16);
         if first_byte / 16 % 2 == 0 {
-            return HeaderAnswer::Read(Place(at + 1), kind, low);
+            return Ok((Place(at + 1), kind, low));
         }
         return read_later(source, at + 1, kind, low, way);
     }
     if way.is_exact() {
-        return HeaderAnswer::Refused(Place(at), Refusal::Eof);
+        return Err((Place(at), Refusal::Eof));
     }
-    HeaderAnswer::Read(Place(at), Kind::Special, 0)
+    Ok((Place(at), Kind::Special, 0))
 }
 
 // Reads an atom header at a place, by the way of the entry that names none.
@@ -168,19 +160,20 @@ pub fn read_atom_header(source: &[u8], place: Place) -> HeaderAnswer
     read_atom_header_by(source, place, Way::unnamed())
 }
 
-// Writes the signature. The first three bytes are 'Pot' (0x506F74), and the fourth is the version.
-pub fn write_header(out: &mut [u8], version: u8) -> Written
+// Writes the signature. The first three bytes are 'Pot' (0x506F74), and the fourth is the version. `copy_from_slice` was
+// tried: it is slower than four stores, by a block on the stack and a test whether it lies over the buffer.
+pub fn write_header(out: &mut [u8], version: u8) -> Result<usize, Refusal>
     ensures value { result ≡ written_answer (signature_bytes version) out.old }
     ensures out_after { out.new ≡ written_content (signature_bytes version) out.old }
 {
     if out.len() < 4 {
-        return Written::Refused(Refusal::no_room(4));
+        return Err(Refusal::no_room(4));
     }
     out[0] = 0x50;
     out[1] = 0x6F;
     out[2] = 0x74;
     out[3] = version;
-    Written::Count(4)
+    Ok(4)
 }
 
 // Takes a signature's word if it has every bit of 'Pot'.
@@ -188,12 +181,13 @@ fn judge(header: u64, place: Place) -> VersionAnswer
     ensures { result ≡ judged header place }
 {
     if header & 0x506F_7400 == 0x506F_7400 {
-        return VersionAnswer::Read(place, (header % 256) as u8);
+        return Ok((place, (header % 256) as u8));
     }
-    VersionAnswer::Refused(place, Refusal::IncompatibleVersion)
+    Err((place, Refusal::IncompatibleVersion))
 }
 
-// Reads the signature at a place, under a way, and answers the version.
+// Reads the signature at a place, under a way, and answers the version. `u32::from_be_bytes` is no plainer: each byte,
+// zero past the end, would be cast for it.
 pub fn read_header_by(source: &[u8], place: Place, way: Way) -> VersionAnswer
     ensures { result ≡ version_read way source.now place.0 }
 {
@@ -206,7 +200,7 @@ pub fn read_header_by(source: &[u8], place: Place, way: Way) -> VersionAnswer
         return judge(header, Place(at + 4));
     }
     if way.is_exact() {
-        return VersionAnswer::Refused(Place(source.len()), Refusal::Eof);
+        return Err((Place(source.len()), Refusal::Eof));
     }
     judge(header, Place(source.len()))
 }

@@ -7,7 +7,8 @@ ghost use Rattle.std.specs.Io.KnownBytes.{Consumes, IsAtEnd};
 
 use std::io::{Read, Result};
 
-// Fills a buffer, and answers how many bytes were read: fewer than it holds only where the input has ended.
+// Fills a buffer, and answers how many bytes were read: fewer than it holds only where the input has ended. The
+// library's `read_exact` doesn't say how many, and its `read_to_end` takes no buffer but one of the heap.
 pub fn read_full<R: Read>(input: &mut R, buffer: &mut [u8]) -> Result<usize>
     ensures bound { ReadsAtMost result buffer.new }
     ensures bytes { IfOk result (λ n.

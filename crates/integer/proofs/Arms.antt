@@ -1,11 +1,12 @@
 -- The arms of the readers of an integer of a known count: the variant that each makes, by the count that led to it.
 use mathlib.Core.Path.{◌≡◌, refl}
 use mathlib.Core.Bool.{Bool, true, false, false≢true}
-use mathlib.Core.List.{List, [], ◌∷◌}
+use mathlib.Core.List.{List}
+use mathlib.Core.Logic.{◌⊎◌, inl, inr}
 use Prim.Native.Nat.{ℕ, ◌+◌, ◌*◌, ◌/◌, ◌%◌, ◌^◌, ◌≤◌, ◌<◌}
 use native.Mathlib.Omega.{arith}
 use borrow.Author.Rules.{rules}
-use borrow.Author.Tests.{ne_eqb, eqb-true}
+use borrow.Author.Tests.{ne_eqb, eqb-true, eqb-false}
 use lib.Dec.{eqb, leb}
 use lib.IntN.{ℤ}
 use mir.Syntax.{w8, w16, w32, w64}
@@ -13,7 +14,7 @@ use mir.Val.{SFits, to_z, of_z}
 use mir.ValLaws.{to_z-of_z}
 use Rattle.types.specs.Choice.{pick}
 use Rattle.types.specs.Values.{words}
-use Rattle.types.specs.Forms.{integers_read, listed, allowed_count}
+use Rattle.types.specs.Forms.{listed, allowed_count}
 use Rattle.types.specs.declared.Integer.TheVariants as I
 use Rattle.types.specs.declared.Wide.{Wide}
 use Rattle.little.specs.Le.{number_at}
@@ -120,17 +121,44 @@ pub ruleset unsigned_arms = (unsigned_one, unsigned_two, unsigned_four, unsigned
 
 pub ruleset arms = (signed_arms, unsigned_arms, sixteen_there, two_words, rules)
 
--- a count that is one of the list, as the arms of a match know it, and one that is not
-abbrev among : ℕ → List ℕ → Bool
-among c [] = false
-among c (d ∷ ds) = pick (eqb c d) true (among c ds)
-
+-- a count that is one of the list, as its tests know it (below 1, at most 4, or one of three), and one that is not
 module _ (count : ℕ) where
-  pub count_listed : (n : ℕ) → count ≡ n → among n integers_read ≡ true → true ≡ allowed_count count
+  pub none_unlisted : count < 1 → false ≡ allowed_count count
   unfolding listed
-  count_listed n e l = cc
+  none_unlisted h = let e : count ≡ 0 = omega arith in cc e
 
-  pub count_unlisted : NotSmaller count → (count ≡ 16 → ⊥) → false ≡ allowed_count count
-  count_unlisted n m = cc (sixteen_alone count n, ne_eqb count 16 m)
+  pub low_listed : 1 ≤ count → count ≤ 4 → true ≡ allowed_count count
+  unfolding listed
+  low_listed l h = go (eqb count 1) (eqb count 2) (eqb count 3) refl refl refl
+    where
+      go : (t u v : Bool) → eqb count 1 ≡ t → eqb count 2 ≡ u → eqb count 3 ≡ v → true ≡ allowed_count count
+      go true u v a b c = cc
+      go false true v a b c = cc
+      go false false true a b c = cc
+      go false false false a b c =
+          let m = eqb-false count 1 a in
+          let n = eqb-false count 2 b in
+          let o = eqb-false count 3 c in
+          let e : count ≡ 4 = omega arith in
+          cc e
 
-pub ruleset counts_ends = (count_listed, count_unlisted, rules)
+  pub high_listed : (count ≡ 6) ⊎ ((count ≡ 8) ⊎ (count ≡ 16)) → true ≡ allowed_count count
+  unfolding listed
+  high_listed (inl e) = cc e
+  high_listed (inr (inl e)) = cc e
+  high_listed (inr (inr e)) = cc e
+
+  pub high_unlisted : 4 < count → (count ≡ 6 → ⊥) → (count ≡ 8 → ⊥) → (count ≡ 16 → ⊥) → false ≡ allowed_count count
+  unfolding listed
+  high_unlisted h a b c =
+      cc (
+        ne_eqb count 1 (omega arith),
+        ne_eqb count 2 (omega arith),
+        ne_eqb count 3 (omega arith),
+        ne_eqb count 4 (omega arith),
+        ne_eqb count 6 a,
+        ne_eqb count 8 b,
+        ne_eqb count 16 c,
+      )
+
+pub ruleset counts_ends = (none_unlisted, low_listed, high_listed, high_unlisted, rules)

@@ -1,5 +1,6 @@
 -- The bytes of a number, where they stand, read back under every way as the integer that has its value, just past them,
 -- whatever follows. One law over the count.
+use Rattle.std.specs.Prelude.{Ok}
 use mathlib.Core.Path.{◌≡◌, refl, ◌∙◌, ap}
 use mathlib.Core.Bool.{true}
 use mathlib.Core.List.{List, ◌++◌}
@@ -14,7 +15,6 @@ use Rattle.types.specs.Values.{value}
 use Rattle.types.specs.Forms.{integers_read, allowed_count}
 use Rattle.types.specs.declared.Way.{Way}
 use Rattle.types.specs.declared.Kind.{Kind}
-use Rattle.types.specs.declared.IntegerAnswer.TheVariants as IA
 use Rattle.types.proofs.Values.{joined_words}
 use Rattle.little.specs.Le.{to_le, number_at}
 use Rattle.little.specs.Twos.{twos, twos_bits}
@@ -46,7 +46,7 @@ int_value_back n z h held = int_value n h (twos_bits n z) ∙ twos_bits_lem n z 
 -- the bytes of a number that they hold
 pub body_back : (way : Way) (kind : Kind) (n bits : ℕ) (before after s : List ℕ) →
     s ≡ before ++ (to_le n bits ++ after) → bits < 256 ^ n →
-    integer_body way s (length before) kind n ≡ IA.Read (record { 0 = length before + n }) (integer_of kind n bits)
+    integer_body way s (length before) kind n ≡ Ok (record { 0 = length before + n }, integer_of kind n bits)
 body_back way kind n bits before after s e h =
     let written : List ℕ = to_le n bits in
     let wide : length written ≡ n = to_length n bits in
@@ -56,4 +56,4 @@ body_back way kind n bits before after s e h =
     let number : number_at n s (length before) ≡ bits =
     number_reads n bits s (length before) before after e refl ∙ mod-eq_of_lt h in
     body_whole way s (length before) kind n (omega arith)
-    ∙ ap (λ (v : ℕ). IA.Read (record { 0 = length before + n }) (integer_of kind n v)) number
+    ∙ ap (λ (v : ℕ). Ok (record { 0 = length before + n }, integer_of kind n v)) number

@@ -1,6 +1,7 @@
 -- Integers read from bytes. Document 01, "Bytes of an atom": "Int and UInt: byte count is argument + 1; counts 1, 2, 3,
 -- 4, 6, 8, 16; little endian, Int in two's complement", and "Refusals by number".
-use Rattle.std.specs.Prelude.{ℕ, ◌+◌, Bool, true, List, eqb, leb, length}
+use Rattle.std.specs.Prelude.{ℕ, ◌+◌, Bool, true, List, eqb, leb, length, Ok, Err}
+use Rattle.types.specs.Answers.{IntegerAnswer}
 use Rattle.types.specs.Choice.{pick}
 use Rattle.types.specs.Counters.{place_in}
 use Rattle.types.specs.Kinds.{kind_code}
@@ -13,8 +14,6 @@ use Rattle.types.specs.declared.Kind.TheVariants as K
 use Rattle.types.specs.declared.Integer.{Integer}
 use Rattle.types.specs.declared.Integer.TheVariants as I
 use Rattle.types.specs.declared.Refusal.TheVariants as R
-use Rattle.types.specs.declared.IntegerAnswer.{IntegerAnswer}
-use Rattle.types.specs.declared.IntegerAnswer.TheVariants as IA
 use Rattle.little.specs.Le.{number_at}
 use Rattle.little.specs.Twos.{twos}
 
@@ -47,8 +46,8 @@ integer_of kind count v = pick (eqb (kind_code kind) 1) (int_of count v) (uint_o
 unfoldable pub integer_body : Way → List ℕ → ℕ → Kind → ℕ → IntegerAnswer
 integer_body way source at kind count =
     up_to way (length source) (at + count)
-    (λ p. IA.Read (record { 0 = p }) (integer_of kind count (number_at count source at)))
-    (IA.Refused (record { 0 = length source }) R.Eof)
+    (λ p. Ok (record { 0 = p }, integer_of kind count (number_at count source at)))
+    (Err (record { 0 = length source }, R.Eof))
 
 -- "7 UnexpectedKind(kind, wanted): number read asked of another kind (wanted: Int for integer reads), before the count
 -- is judged: unchanged"; "6 UnsupportedByteCount(kind, count): number width not allowed"; "A number read asked for
@@ -57,8 +56,8 @@ unfoldable pub integer_from : Way → List ℕ → ℕ → Kind → ℕ → Inte
 integer_from way source at kind count =
     pick (integer_kind kind)
     (pick (allowed_count count) (integer_body way source at kind count)
-    (IA.Refused (record { 0 = at }) (unsupported kind count)))
-    (IA.Refused (record { 0 = at }) (R.UnexpectedKind kind K.Int))
+    (Err (record { 0 = at }, unsupported kind count)))
+    (Err (record { 0 = at }, R.UnexpectedKind kind K.Int))
 
 -- an integer read at any place
 abbrev pub integer_read : Way → List ℕ → ℕ → Kind → ℕ → IntegerAnswer

@@ -14,16 +14,7 @@ use types::{Integer, IntegerAnswer, Kind, Place, Refusal, Way, Wide};
 pub fn allowed(count: u64) -> bool
     ensures { result ≡ allowed_count count }
 {
-    match count {
-        1 => return true,
-        2 => return true,
-        3 => return true,
-        4 => return true,
-        6 => return true,
-        8 => return true,
-        16 => return true,
-        _ => return false,
-    }
+    matches!(count, 1 | 2 | 3 | 4 | 6 | 8 | 16)
 }
 
 // The two words of 16 bytes, whose room the caller judged.
@@ -43,29 +34,30 @@ fn int_at(source: &[u8], at: usize, count: u64) -> Integer
     ensures { result ≡ int_of count (number_at count source.now at) }
 {
     match count {
-        1 => return Integer::I8(little::i8_of(little::le1(source, at))),
-        2 => return Integer::I16(little::i16_of(little::le2(source, at))),
-        3 => return Integer::I32(little::i24_of(little::le3(source, at))),
-        4 => return Integer::I32(little::i32_of(little::le4(source, at))),
-        6 => return Integer::I64(little::i48_of(little::le6(source, at))),
-        8 => return Integer::I64(little::i64_of(little::le8(source, at))),
-        _ => return Integer::I128(wide_at(source, at)),
+        1 => Integer::I8(little::i8_of(little::le1(source, at))),
+        2 => Integer::I16(little::i16_of(little::le2(source, at))),
+        3 => Integer::I32(little::i24_of(little::le3(source, at))),
+        4 => Integer::I32(little::i32_of(little::le4(source, at))),
+        6 => Integer::I64(little::i48_of(little::le6(source, at))),
+        8 => Integer::I64(little::i64_of(little::le8(source, at))),
+        _ => Integer::I128(wide_at(source, at)),
     }
 }
 
-// The unsigned integer of an allowed count of bytes, whose room the caller judged.
+// The unsigned integer of an allowed count of bytes, whose room the caller judged. No arm is one of the signed
+// integer's, so that one function for both would be two all the same.
 fn uint_at(source: &[u8], at: usize, count: u64) -> Integer
     requires { (allowed_count count ≡ true) × (at + count ≤ length source.now) }
     ensures { result ≡ uint_of count (number_at count source.now at) }
 {
     match count {
-        1 => return Integer::U8(little::le1(source, at) as u8),
-        2 => return Integer::U16(little::le2(source, at) as u16),
-        3 => return Integer::U32(little::le3(source, at) as u32),
-        4 => return Integer::U32(little::le4(source, at) as u32),
-        6 => return Integer::U64(little::le6(source, at)),
-        8 => return Integer::U64(little::le8(source, at)),
-        _ => return Integer::U128(wide_at(source, at)),
+        1 => Integer::U8(little::le1(source, at) as u8),
+        2 => Integer::U16(little::le2(source, at) as u16),
+        3 => Integer::U32(little::le3(source, at) as u32),
+        4 => Integer::U32(little::le4(source, at) as u32),
+        6 => Integer::U64(little::le6(source, at)),
+        8 => Integer::U64(little::le8(source, at)),
+        _ => Integer::U128(wide_at(source, at)),
     }
 }
 
@@ -73,11 +65,7 @@ fn uint_at(source: &[u8], at: usize, count: u64) -> Integer
 fn is_integer(kind: Kind) -> bool
     ensures { result ≡ integer_kind kind }
 {
-    match kind {
-        Kind::Int => return true,
-        Kind::UInt => return true,
-        _ => return false,
-    }
+    matches!(kind, Kind::Int | Kind::UInt)
 }
 
 // The integer of a kind, whose room the caller judged: a helper of readers.
@@ -86,8 +74,8 @@ pub fn integer_at(kind: Kind, source: &[u8], at: usize, count: u64) -> Integer
     ensures { result ≡ integer_of kind count (number_at count source.now at) }
 {
     match kind {
-        Kind::Int => return int_at(source, at, count),
-        _ => return uint_at(source, at, count),
+        Kind::Int => int_at(source, at, count),
+        _ => uint_at(source, at, count),
     }
 }
 
@@ -107,19 +95,19 @@ pub fn read_from(kind: Kind, count: u64, source: &[u8], place: Place, way: Way) 
 {
     let at = place.within(source.len());
     if !is_integer(kind) {
-        return IntegerAnswer::Refused(Place(at), Refusal::UnexpectedKind(kind, Kind::Int));
+        return Err((Place(at), Refusal::UnexpectedKind(kind, Kind::Int)));
     }
     if !allowed(count) {
-        return IntegerAnswer::Refused(Place(at), Refusal::unsupported(kind, count));
+        return Err((Place(at), Refusal::unsupported(kind, count)));
     }
     if count <= (source.len() - at) as u64 {
-        return IntegerAnswer::Read(
+        return Ok((
             Place(at + count as usize),
             integer_at(kind, source, at, count),
-        );
+        ));
     }
     if way.is_exact() {
-        return IntegerAnswer::Refused(Place(source.len()), Refusal::Eof);
+        return Err((Place(source.len()), Refusal::Eof));
     }
-    IntegerAnswer::Read(Place(source.len()), filled_integer(kind, source, at, count))
+    Ok((Place(source.len()), filled_integer(kind, source, at, count)))
 }

@@ -30,10 +30,6 @@ module _ (s zeros held : List ℕ) (h : held ≡ copied_over s (take (length s -
         let n : length s - 0 ≡ length s = omega arith in
         rw (n, same) (take-append_seam s rest)
 
-    -- from there they are read
-    pub back_there : length s ≤ length (held ++ rest)
-    back_there = let m : length (held ++ rest) ≡ length s + length rest = rw (same, length-append s rest) in omega arith
-
     -- fit where the source fits
     pub back_room : (old : List ℕ) → length s ≤ length old → length (take (length s - 0) (held ++ rest)) ≤ length old
     back_room old room = rw back room

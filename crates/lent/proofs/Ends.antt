@@ -1,4 +1,5 @@
 -- The ends of the writers of bytes: no room for them, room, and the loop that copies them.
+use Rattle.std.specs.Prelude.{Ok, Err}
 use mathlib.Core.Path.{◌≡◌, refl, ◌∙◌}
 use mathlib.Core.List.{List, [], ◌∷◌, ◌++◌}
 use Prim.Native.Nat.{ℕ, ◌+◌, ◌≤◌, ◌<◌}
@@ -9,21 +10,20 @@ use lib.ListN.{length, take, drop, set, get_or, length-set}
 use lib.Seq.{sets-eq}
 use Rattle.types.specs.Refusals.{no_room}
 use Rattle.types.specs.declared.Refusal.{Refusal}
-use Rattle.types.specs.declared.Written.TheVariants as W
 use Rattle.lent.specs.Lent.{written_answer, written_content, copied_over}
 use Rattle.lent.proofs.Stores.{copy_more, copy_done}
 
 module _ (bytes old : List ℕ) (count : ℕ) where
   -- the buffer is shorter than the bytes: refusal 9, and it is as it was
   module _ (h : length old < count) (e : count ≡ length bytes) where
-    pub short_answer : (why : Refusal) → why ≡ no_room count → W.Refused why ≡ written_answer bytes old
+    pub short_answer : (why : Refusal) → why ≡ no_room count → Err why ≡ written_answer bytes old
     short_answer why n = cc (lt-ltb (length old) count h)
 
     pub short_content : old ≡ written_content bytes old
     short_content = cc (lt-ltb (length old) count h)
 
   -- it has room: the bytes are counted
-  pub room_answer : count ≡ length bytes → count ≤ length old → W.Count count ≡ written_answer bytes old
+  pub room_answer : count ≡ length bytes → count ≤ length old → Ok count ≡ written_answer bytes old
   room_answer e h = cc (le-ltb (length old) count h)
 
 -- and stand in front of what was there

@@ -1,4 +1,5 @@
 -- The laws of a lent buffer that every writer cites: what is written is in front, and the rest is as it was.
+use Rattle.std.specs.Prelude.{Ok, Err}
 use mathlib.Core.Path.{◌≡◌, ◌∙◌, ap}
 use mathlib.Core.List.{List, ◌++◌, append_assoc, append-nil}
 use Prim.Native.Nat.{ℕ, suc, ◌+◌, ◌-◌, ◌≤◌, ◌<◌}
@@ -10,18 +11,17 @@ use lib.Seq.{drop-cons, take-suc, set_at, length-take-le, take-length, take-appe
 use lib.Seq.{drop-drop, take_all}
 use Rattle.lent.specs.Lent.{written_answer, written_content, copied_over}
 use Rattle.types.specs.Refusals.{no_room}
-use Rattle.types.specs.declared.Written.TheVariants as W
 
 -- without room: refusal 9, and the buffer as it was
 pub answer_short : (bytes old : List ℕ) → length old < length bytes →
-    written_answer bytes old ≡ W.Refused (no_room (length bytes))
+    written_answer bytes old ≡ Err (no_room (length bytes))
 answer_short bytes old h = simp (lt-ltb (length old) (length bytes) h)
 
 pub content_short : (bytes old : List ℕ) → length old < length bytes → written_content bytes old ≡ old
 content_short bytes old h = simp (lt-ltb (length old) (length bytes) h)
 
 -- with room: the count, and the bytes in front
-pub answer_room : (bytes old : List ℕ) → length bytes ≤ length old → written_answer bytes old ≡ W.Count (length bytes)
+pub answer_room : (bytes old : List ℕ) → length bytes ≤ length old → written_answer bytes old ≡ Ok (length bytes)
 answer_room bytes old h = simp (le-ltb (length old) (length bytes) h)
 
 pub content_room : (bytes old : List ℕ) → length bytes ≤ length old →

@@ -5,29 +5,28 @@
 ghost use Rattle.std.specs.Prelude.{◌≡◌, [], ◌∷◌, ◌≤◌, ◌<◌, ◌+◌, length};
 ghost use Rattle.lent.specs.Lent.{written_answer, written_content, copied_over};
 
-use types::{Refusal, Written};
+use types::Refusal;
 
 // Writes one byte.
-pub fn put_one(out: &mut [u8], byte: u8) -> Written
+pub fn put_one(out: &mut [u8], byte: u8) -> Result<usize, Refusal>
     ensures value { result ≡ written_answer (byte ∷ []) out.old }
     ensures out_after { out.new ≡ written_content (byte ∷ []) out.old }
 {
     if out.len() < 1 {
-        return Written::Refused(Refusal::no_room(1));
+        return Err(Refusal::no_room(1));
     }
     out[0] = byte;
-    Written::Count(1)
+    Ok(1)
 }
 
-// Copies a source that has its room, byte by byte.
+// Copies a source that has its room, byte by byte. In `zip` or `copy_from_slice` its callers' two loops are not seen to
+// be one copy, which takes up to twelve times as long.
 fn copy_each(out: &mut [u8], source: &[u8])
     requires { length source.now ≤ length out.old }
     ensures { out.new ≡ copied_over source.now out.old }
 {
-    let mut i = 0;
-    while i < source.len() {
-        out[i] = source[i];
-        i += 1;
+    for (i, &byte) in source.iter().enumerate() {
+        out[i] = byte;
     }
 }
 
@@ -44,14 +43,14 @@ fn copy_piece(out: &mut [u8], source: &[u8])
     copy_each(out, &block[0..size]);
 }
 
-// Copies a source of `count` bytes to twice as many that has its room: its first `count`, and its last over them.
-fn copy_ends(out: &mut [u8], source: &[u8], count: usize)
-    requires count_in_bounds { (count ≤ length source.now) × (length source.now ≤ count + count) × (count ≤ 4096) }
+// Copies a source of N bytes to twice as many that has its room: its first N, and its last over them.
+fn copy_ends<const N: usize>(out: &mut [u8], source: &[u8])
+    requires count_in_bounds { (N ≤ length source.now) × (length source.now ≤ N + N) × (N ≤ 4096) }
     requires source_in_bounds { length source.now ≤ length out.old }
     ensures { out.new ≡ copied_over source.now out.old }
 {
-    copy_piece(out, &source[0..count]);
-    let from = source.len() - count;
+    copy_piece(out, &source[0..N]);
+    let from = source.len() - N;
     copy_piece(&mut out[from..], &source[from..]);
 }
 
@@ -80,16 +79,11 @@ fn copy_short(out: &mut [u8], source: &[u8])
     requires source_in_bounds { length source.now ≤ length out.old }
     ensures { out.new ≡ copied_over source.now out.old }
 {
-    let size = source.len();
-    if size < 4 {
-        copy_few(out, source);
-        return;
+    match source.len() {
+        0..=3 => copy_few(out, source),
+        4..=8 => copy_ends::<4>(out, source),
+        _ => copy_ends::<8>(out, source),
     }
-    if size < 9 {
-        copy_ends(out, source, 4);
-        return;
-    }
-    copy_ends(out, source, 8);
 }
 
 // Copies 16 to 64 bytes that have their room.
@@ -98,11 +92,10 @@ fn copy_middle(out: &mut [u8], source: &[u8])
     requires source_in_bounds { length source.now ≤ length out.old }
     ensures { out.new ≡ copied_over source.now out.old }
 {
-    if source.len() < 33 {
-        copy_ends(out, source, 16);
-        return;
+    match source.len() {
+        0..=32 => copy_ends::<16>(out, source),
+        _ => copy_ends::<32>(out, source),
     }
-    copy_ends(out, source, 32);
 }
 
 // Copies a source of any length that has its room: as one piece, or else its halves. It calls itself, so that it stays
@@ -127,30 +120,22 @@ pub fn copy_in(out: &mut [u8], source: &[u8])
     requires { length source.now ≤ length out.old }
     ensures { out.new ≡ copied_over source.now out.old }
 {
-    let size = source.len();
-    if size < 16 {
-        copy_short(out, source);
-        return;
+    match source.len() {
+        0..=15 => copy_short(out, source),
+        16..=64 => copy_middle(out, source),
+        65..=4096 => copy_piece(out, source),
+        _ => copy_halves(&mut out[0..], &source[0..]),
     }
-    if size < 65 {
-        copy_middle(out, source);
-        return;
-    }
-    if size <= 4096 {
-        copy_piece(out, source);
-        return;
-    }
-    copy_halves(&mut out[0..], &source[0..]);
 }
 
 // Writes a list of bytes as it is.
-pub fn put_all(out: &mut [u8], source: &[u8]) -> Written
+pub fn put_all(out: &mut [u8], source: &[u8]) -> Result<usize, Refusal>
     ensures value { result ≡ written_answer source.now out.old }
     ensures out_after { out.new ≡ written_content source.now out.old }
 {
     if out.len() < source.len() {
-        return Written::Refused(Refusal::no_room(source.len()));
+        return Err(Refusal::no_room(source.len()));
     }
     copy_in(out, source);
-    Written::Count(source.len())
+    Ok(source.len())
 }

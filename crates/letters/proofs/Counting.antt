@@ -7,59 +7,12 @@ use Prim.Native.Nat.{ℕ, suc, ◌+◌, ◌-◌, ◌≤◌, ◌<◌}
 use native.Mathlib.Numerals.{add-one}
 use native.Mathlib.Omega.{arith}
 use borrow.Author.Rules.{rules}
-use borrow.Author.Tests.{eq-eqb, ne_eqb}
 use lib.ListN.{length, drop, get_or}
 use lib.Seq.{drop-cons, drop-length}
-use Rattle.letters.specs.Letters.{between, letter, mark, counts, letters}
+use Rattle.letters.specs.Letters.{letter, mark, counts, letters}
 use Rattle.letters.specs.Joins.{lead}
 use Rattle.letters.specs.Parts.{one}
-use Rattle.letters.proofs.Letters.{inside, below, above, mark_begins, alone, with_next, first-drop}
-
--- a byte by itself
-module _ (byte : ℕ) where
-  pub letter_low : byte < 0x80 → 1 ≡ letter byte
-  letter_low h = rw (below 0x80 byte 0xBF h) refl
-
-  pub letter_high : 0xBF < byte → 1 ≡ letter byte
-  letter_high h = rw (above 0x80 byte 0xBF (omega arith) h) refl
-
-  pub no_letter : 0x80 ≤ byte → byte ≤ 0xBF → 0 ≡ letter byte
-  no_letter h k = rw (inside 0x80 byte 0xBF h k) refl
-
-  pub within_below : (last : ℕ) → byte < 0x80 → 0 ≡ one (between 0x80 byte last)
-  within_below last h = rw (below 0x80 byte last h) refl
-
-  pub within_above : (last : ℕ) → 0x80 ≤ byte → last < byte → 0 ≡ one (between 0x80 byte last)
-  within_above last h k = rw (above 0x80 byte last h k) refl
-
-  pub within : (last : ℕ) → 0x80 ≤ byte → byte ≤ last → 1 ≡ one (between 0x80 byte last)
-  within last h k = rw (inside 0x80 byte last h k) refl
-
-  pub lead_cc : byte ≡ 0xCC → 1 ≡ one (lead byte)
-  lead_cc e = rw (eq-eqb byte 0xCC e) refl
-
-  pub lead_cd : byte ≡ 0xCD → 1 ≡ one (lead byte)
-  lead_cd e = rw (e) refl
-
-  pub no_leads : (byte ≡ 0xCC → ⊥) → (byte ≡ 0xCD → ⊥) → 0 ≡ one (lead byte)
-  no_leads h k = rw (ne_eqb byte 0xCC h, ne_eqb byte 0xCD k) refl
-
-  -- and with the next
-  module _ (next : ℕ) where
-    pub mark_cc : (n : ℕ) → byte ≡ 0xCC → n ≡ one (between 0x80 next 0xBF) → n ≡ one (mark byte next)
-    mark_cc n e h = rw (e) h
-
-    pub mark_cd : (n : ℕ) → byte ≡ 0xCD → n ≡ one (between 0x80 next 0xAF) → n ≡ one (mark byte next)
-    mark_cd n e h = rw (e) h
-
-    pub no_mark : (byte ≡ 0xCC → ⊥) → (byte ≡ 0xCD → ⊥) → 0 ≡ one (mark byte next)
-    no_mark h k = rw (ne_eqb byte 0xCC h, ne_eqb byte 0xCD k) refl
-
-pub ruleset byte_ends = (letter_low, letter_high, no_letter, within_below, within_above, within, rules)
-
-pub ruleset lead_ends = (lead_cc, lead_cd, no_leads, rules)
-
-pub ruleset mark_ends = (mark_cc, mark_cd, no_mark, rules)
+use Rattle.letters.proofs.Letters.{mark_begins, alone, with_next, first-drop}
 
 -- From one place on, so many letters are counted up to another, at most the end, and so many bytes are met that a mark
 -- may begin with. Where there was none of these, what was counted, with what is left, is the whole.

@@ -7,3 +7,4 @@ pub mod Signs
 pub mod Shortest
 pub mod Stores
 pub mod Words
+pub mod Machine

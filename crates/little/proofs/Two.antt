@@ -9,8 +9,8 @@ use lib.Dec.{ltb, lit<}
 use lib.IntN.{ℤ, pos, negsuc}
 use lib.Pow.{pow-add}
 use lib.Signed.{mag}
-use mir.Syntax.{w128}
-use mir.Val.{to_z, sel}
+use mir.Syntax.{Width, w128}
+use mir.Val.{to_z, sel, bits, hbits}
 use borrow.Author.Tests.{lt-ltb, le-ltb, ltb-true, ltb-false}
 use Rattle.types.specs.Choice.{pick}
 use Rattle.little.specs.Le.{to_le}
@@ -120,11 +120,17 @@ holds_s_more n m z le h =
     let k : mag z < 256 ^ n / 2 = held_mag n z h in
     mag_held m z (omega arith)
 
--- the machine's own two's complement of 128 bits is that of 16 bytes
+-- the machine's own two's complement of a width is that of as many bytes
 chosen : (t : Bool) (m n : ℕ) → sel t (pos n) (negsuc (m - suc n)) ≡ pick t (pos n) (negsuc (m - 1 - n))
 chosen true m n = refl
 chosen false m n = ap negsuc (omega arith)
 
-pub machine_twos : (n : ℕ) → to_z w128 n ≡ twos 16 n
+pub width_twos : (w : Width) (n v : ℕ) → 2 ^ bits w ≡ 256 ^ n → 2 ^ hbits w ≡ 256 ^ n / 2 → to_z w v ≡ twos n v
 unfolding twos
-machine_twos n = chosen (ltb n (256 ^ 16 / 2)) (256 ^ 16) n
+width_twos w n v full half =
+    chosen (ltb v (2 ^ hbits w)) (2 ^ bits w) v
+    ∙ ap (λ (m : ℕ). pick (ltb v m) (pos v) (negsuc (2 ^ bits w - 1 - v))) half
+    ∙ ap (λ (m : ℕ). pick (ltb v (256 ^ n / 2)) (pos v) (negsuc (m - 1 - v))) full
+
+pub machine_twos : (n : ℕ) → to_z w128 n ≡ twos 16 n
+machine_twos n = width_twos w128 16 n refl refl

@@ -1,6 +1,7 @@
 -- THE BYTES FROM AN ATOM'S FIRST PLACE TO THE PLACE AFTER IT ARE THE ATOM: read alone, from place 0, they answer it
 -- again, moved. Either all of it is there, header and body, and what stands behind changes nothing; or filled reading
 -- met the end, and nothing stands behind.
+use Rattle.std.specs.Prelude.{Result, Ok, Err}
 use mathlib.Core.Path.{◌≡◌, refl, ◌∙◌, sym, ap, subst}
 use mathlib.Core.Bool.{Bool, true, false, false≢true}
 use mathlib.Core.List.{List, ◌++◌}
@@ -10,9 +11,11 @@ use lib.Dec.{leb}
 use lib.ListN.{length, take, drop, length-drop, take-append-drop}
 use lib.Seq.{length-take-le, take_all, take-append-le, drop-append-le, drop-drop}
 use borrow.Author.Tests.{le-leb, lt-leb, leb-false}
+use Rattle.types.proofs.Answers.{ok_three}
+use Rattle.types.specs.Answers.{AtomAnswer, HeaderAnswer}
 use Rattle.types.specs.Choice.{pick}
 use Rattle.types.specs.Ways.{exact, up_to}
-use Rattle.types.specs.Counters.{place_in, places_of}
+use Rattle.types.specs.Counters.{place_in}
 use Rattle.types.specs.Forms.{known, body_length, charge_of, unknown}
 use Rattle.types.proofs.Counters.{place_same}
 use Rattle.types.specs.declared.Way.{Way}
@@ -29,12 +32,6 @@ use Rattle.types.specs.declared.Nucleus.{Nucleus}
 use Rattle.types.specs.declared.Nucleus.TheVariants as N
 use Rattle.types.specs.declared.Refusal.{Refusal}
 use Rattle.types.specs.declared.Refusal.TheVariants as R
-use Rattle.types.specs.declared.HeaderAnswer.{HeaderAnswer}
-use Rattle.types.specs.declared.HeaderAnswer.TheVariants as H
-use Rattle.types.specs.declared.BudgetAnswer.{BudgetAnswer}
-use Rattle.types.specs.declared.BudgetAnswer.TheVariants as BA
-use Rattle.types.specs.declared.AtomAnswer.{AtomAnswer}
-use Rattle.types.specs.declared.AtomAnswer.TheVariants as A
 use Rattle.little.specs.Le.{from_le, number_at}
 use Rattle.header.specs.Header.{header_from, header_read, header_kind, header_argument, header_length}
 use Rattle.dictionary.proofs.Fronts.{front, front_grows}
@@ -71,22 +68,23 @@ module _ (s : List ℕ) (at end : ℕ) (on : at ≤ end) (within : end ≤ lengt
 -- the header at the start of bytes
 head_alone : (way : Way) (t : List ℕ) →
     header_read way t 0
-    ≡ up_to way (length t) (header_length t) (λ p. H.Read (record { 0 = p }) (header_kind t) (header_argument t))
-    (H.Refused (record { 0 = length t }) R.Eof)
+    ≡ up_to way (length t) (header_length t) (λ p. Ok (record { 0 = p }, header_kind t, header_argument t))
+    (Err (record { 0 = length t }, R.Eof))
 unfolding header_from
 head_alone way t =
     let z : 0 + header_length t ≡ header_length t = omega arith in
     ap (header_from way t) (place_same (length t) 0 (omega arith))
-    ∙ ap (λ (n : ℕ). up_to way (length t) n (λ p. H.Read (record { 0 = p }) (header_kind t) (header_argument t))
-    (H.Refused (record { 0 = length t }) R.Eof)) z
+    ∙ ap (λ (n : ℕ). up_to way (length t) n (λ p. Ok (record { 0 = p }, header_kind t, header_argument t))
+    (Err (record { 0 = length t }, R.Eof))) z
 
 module _ (way : Way) (s : List ℕ) (at end : ℕ) (on : at ≤ end) (within : end ≤ length s) where
   -- the header reads the same, where it ends within the part
   module _ (next : Place) (kind : Kind) (arg : ℕ) where
     whole_header : at + header_length (drop at s) ≤ end →
-        H.Read (record { 0 = at + header_length (drop at s) }) (header_kind (drop at s)) (header_argument (drop at s))
-        ≡ H.Read next kind arg →
-        header_read way (between s at end) 0 ≡ H.Read (earlier at next) kind arg
+        ◌≡◌ {A = HeaderAnswer}
+        (Ok (record { 0 = at + header_length (drop at s) }, header_kind (drop at s), header_argument (drop at s)))
+        (Ok (next, kind, arg)) →
+        header_read way (between s at end) 0 ≡ Ok (earlier at next, kind, arg)
     whole_header h e =
         let p = between s at end in
         let rest = drop (end - at) (drop at s) in
@@ -100,47 +98,48 @@ module _ (way : Way) (s : List ℕ) (at end : ℕ) (on : at ≤ end) (within : e
         let x : header_length p ≡ at + header_length (drop at s) - at = omega arith in
         let k : header_kind p ≡ header_kind (drop at s) = sym f.same_kind ∙ ap header_kind back in
         let a : header_argument p ≡ header_argument (drop at s) = sym f.same_argument ∙ ap header_argument back in
-        let i : next ≡ record { 0 = at + header_length (drop at s) } = cc in
-        let u : header_kind (drop at s) ≡ kind = cc in
-        let v : header_argument (drop at s) ≡ arg = cc in
-        let read : header_read way p 0 ≡ H.Read (record { 0 = header_length p }) (header_kind p) (header_argument p) =
+        let parts = ok_three e in
+        let i = sym parts.0 in
+        let u = parts.1 in
+        let v = parts.2 in
+        let read : header_read way p 0 ≡ Ok (record { 0 = header_length p }, header_kind p, header_argument p) =
         head_alone way p ∙ simp (le-leb (header_length p) (length p) fits) in
         cc
 
     cut_header : length s < at + header_length (drop at s) → exact way ≡ false → end ≡ length s →
-        H.Read (record { 0 = length s }) (header_kind (drop at s)) (header_argument (drop at s)) ≡ H.Read next kind arg →
-        header_read way (between s at end) 0 ≡ H.Read (earlier at next) kind arg
+        ◌≡◌ {A = HeaderAnswer} (Ok (record { 0 = length s }, header_kind (drop at s), header_argument (drop at s)))
+        (Ok (next, kind, arg)) →
+        header_read way (between s at end) 0 ≡ Ok (earlier at next, kind, arg)
     cut_header h x e q =
         let all = part_all s at end on within e in
         let l : length (drop at s) ≡ length s - at = length-drop at s in
-        let i : next ≡ record { 0 = length s } = cc in
-        let u : header_kind (drop at s) ≡ kind = cc in
-        let v : header_argument (drop at s) ≡ arg = cc in
+        let parts = ok_three q in
+        let i = sym parts.0 in
+        let u = parts.1 in
+        let v = parts.2 in
         let short : length (drop at s) < header_length (drop at s) = omega arith in
         let read : header_read way (drop at s) 0
-        ≡ H.Read (record { 0 = length (drop at s) }) (header_kind (drop at s)) (header_argument (drop at s)) =
+        ≡ Ok (record { 0 = length (drop at s) }, header_kind (drop at s), header_argument (drop at s)) =
         head_alone way (drop at s) ∙ simp (lt-leb (header_length (drop at s)) (length (drop at s)) short, x) in
         cc
 
     header_by : (t x : Bool) → leb (at + header_length (drop at s)) (length s) ≡ t → exact way ≡ x → next.0 ≤ end →
-        pick t
-        (H.Read (record { 0 = at + header_length (drop at s) }) (header_kind (drop at s)) (header_argument (drop at s)))
-        (pick x (H.Refused (record { 0 = length s }) R.Eof)
-        (H.Read (record { 0 = length s }) (header_kind (drop at s)) (header_argument (drop at s))))
-        ≡ H.Read next kind arg →
-        header_read way (between s at end) 0 ≡ H.Read (earlier at next) kind arg
+        pick {X = HeaderAnswer} t
+        (Ok (record { 0 = at + header_length (drop at s) }, header_kind (drop at s), header_argument (drop at s)))
+        (pick x (Err (record { 0 = length s }, R.Eof))
+        (Ok (record { 0 = length s }, header_kind (drop at s), header_argument (drop at s))))
+        ≡ Ok (next, kind, arg) →
+        header_read way (between s at end) 0 ≡ Ok (earlier at next, kind, arg)
     header_by true x f g to e =
-        let i : next ≡ record { 0 = at + header_length (drop at s) } = cc in
-        let n : next.0 ≡ at + header_length (drop at s) = ap (λ (p : Place). p.0) i in
+        let n : next.0 ≡ at + header_length (drop at s) = ap (λ (p : Place). p.0) (sym (ok_three e).0) in
         whole_header (omega arith) e
     header_by false true f g to e = absurd (false≢true cc)
     header_by false false f g to e =
-        let i : next ≡ record { 0 = length s } = cc in
-        let n : next.0 ≡ length s = ap (λ (p : Place). p.0) i in
+        let n : next.0 ≡ length s = ap (λ (p : Place). p.0) (sym (ok_three e).0) in
         cut_header (leb-false (at + header_length (drop at s)) (length s) f) g (omega arith) e
 
-    header_moved : next.0 ≤ end → header_from way s at ≡ H.Read next kind arg →
-        header_read way (between s at end) 0 ≡ H.Read (earlier at next) kind arg
+    header_moved : next.0 ≤ end → header_from way s at ≡ Ok (next, kind, arg) →
+        header_read way (between s at end) 0 ≡ Ok (earlier at next, kind, arg)
     unfolding header_from
     header_moved to e =
         header_by (leb (at + header_length (drop at s)) (length s)) (exact way) refl refl to e
@@ -148,14 +147,14 @@ module _ (way : Way) (s : List ℕ) (at end : ℕ) (on : at ≤ end) (within : e
   -- what follows it: an atom that was read
   module _ (first next : Place) (arg : ℕ) (after : Place) (left : Budget) (atom : Atom) where
     taken_moved : (kind : Kind) (rest : Budget) (to : Place) (nucleus other : Nucleus) →
-        moved_nucleus at nucleus ≡ other → atom_taken kind arg first next rest to nucleus ≡ A.Read after left atom →
+        moved_nucleus at nucleus ≡ other → atom_taken kind arg first next rest to nucleus ≡ Ok (after, left, atom) →
         atom_taken kind arg (earlier at first) (earlier at next) rest (earlier at to) other
-        ≡ A.Read (earlier at after) left (moved at atom)
+        ≡ Ok (earlier at after, left, moved at atom)
     taken_moved kind rest to nucleus other same e =
-        let p : to ≡ after = cc in
-        let q : rest ≡ left = cc in
-        let x : record { kind = kind; arg = arg; places = places_of first next to; nucleus = nucleus } ≡ atom = cc in
-        let y = ap (moved at) x in
+        let parts = ok_three e in
+        let p = parts.0 in
+        let q = parts.1 in
+        let y = ap (moved at) parts.2 in
         cc
 
     module _ (scratch : List ℕ) (past : at ≤ next.0) (ended : after.0 ≡ end) where
@@ -165,18 +164,17 @@ module _ (way : Way) (s : List ℕ) (at end : ℕ) (on : at ≤ end) (within : e
           exact way ≡ x →
           pick t (atom_taken n.kind arg first next rest (record { 0 = next.0 + count })
           (n.nucleus count (number_at count s next.0)))
-          (pick x (A.Refused (record { 0 = length s }) rest R.Eof)
+          (pick x (Err (record { 0 = length s }, rest, R.Eof))
           (atom_taken n.kind arg first next rest (record { 0 = length s })
-          (n.nucleus count (number_at count s next.0)))) ≡ A.Read after left atom →
+          (n.nucleus count (number_at count s next.0)))) ≡ Ok (after, left, atom) →
           up_to way (length (between s at end)) (next.0 - at + count)
           (λ p. atom_taken n.kind arg (earlier at first) (earlier at next) rest (record { 0 = p })
           (n.nucleus count (number_at count (between s at end) (next.0 - at))))
-          (A.Refused (record { 0 = length (between s at end) }) rest R.Eof)
-          ≡ A.Read (earlier at after) left (moved at atom)
+          (Err (record { 0 = length (between s at end) }, rest, R.Eof))
+          ≡ Ok (earlier at after, left, moved at atom)
       unfolding number_at
       number_by n rest plain count c true x f g e =
-          let p : record { 0 = next.0 + count } ≡ after = cc in
-          let m : next.0 + count ≡ after.0 = ap (λ (y : Place). y.0) p in
+          let m : next.0 + count ≡ after.0 = ap (λ (y : Place). y.0) (ok_three e).0 in
           let l = part_length s at end on within in
           let there : next.0 - at + count ≤ length (between s at end) = omega arith in
           let i : at + (next.0 - at) ≡ next.0 = omega arith in
@@ -188,8 +186,7 @@ module _ (way : Way) (s : List ℕ) (at end : ℕ) (on : at ≤ end) (within : e
           rw (le-leb (next.0 - at + count) (length (between s at end)) there, bytes, to) r
       number_by n rest plain count c false true f g e = absurd (false≢true cc)
       number_by n rest plain count c false false f g e =
-          let p : record { 0 = length s } ≡ after = cc in
-          let m : length s ≡ after.0 = ap (λ (y : Place). y.0) p in
+          let m : length s ≡ after.0 = ap (λ (y : Place). y.0) (ok_three e).0 in
           let all = part_all s at end on within (sym (m ∙ ended)) in
           let l = part_length s at end on within in
           let out = leb-false (next.0 + count) (length s) f in
@@ -205,9 +202,9 @@ module _ (way : Way) (s : List ℕ) (at end : ℕ) (on : at ≤ end) (within : e
 
       number_moved : (n : NumberForm) (rest : Budget) →
           ((c b : ℕ) → moved_nucleus at (n.nucleus c b) ≡ n.nucleus c b) →
-          number_taken n way s arg first next rest ≡ A.Read after left atom →
+          number_taken n way s arg first next rest ≡ Ok (after, left, atom) →
           number_taken n way (between s at end) arg (earlier at first) (earlier at next) rest
-          ≡ A.Read (earlier at after) left (moved at atom)
+          ≡ Ok (earlier at after, left, moved at atom)
       number_moved n rest plain e =
           number_by n rest plain (body_length n.kind arg) refl
           (leb (next.0 + body_length n.kind arg) (length s)) (exact way) refl refl e
@@ -219,17 +216,16 @@ module _ (way : Way) (s : List ℕ) (at end : ℕ) (on : at ≤ end) (within : e
       mark_moved W.ExactCopied start n = refl
 
       string_moved : (rest : Budget) → next.0 ≤ length s → Outcome way s next.0 arg scratch →
-          bytes_taken way s arg first next scratch rest ≡ A.Read after left atom →
+          bytes_taken way s arg first next scratch rest ≡ Ok (after, left, atom) →
           bytes_taken way (between s at end) arg (earlier at first) (earlier at next) scratch rest
-          ≡ A.Read (earlier at after) left (moved at atom)
+          ≡ Ok (earlier at after, left, moved at atom)
       string_moved rest inside (whole w r) e =
           let start = start_same s next.0 inside in
           let a = string_read_lem way s next.0 arg scratch w r in
           let read : atom_taken K.Bytes arg first next rest (record { 0 = start_of s next.0 + arg })
-          (N.Bytes (string_mark way (start_of s next.0) arg)) ≡ A.Read after left atom =
+          (N.Bytes (string_mark way (start_of s next.0) arg)) ≡ Ok (after, left, atom) =
           sym (ap (bytes_atom arg first next rest) a) ∙ e in
-          let p : record { 0 = start_of s next.0 + arg } ≡ after = cc in
-          let m : start_of s next.0 + arg ≡ after.0 = ap (λ (y : Place). y.0) p in
+          let m : start_of s next.0 + arg ≡ after.0 = ap (λ (y : Place). y.0) (ok_three read).0 in
           let l = part_length s at end on within in
           let low : next.0 - at ≤ length (between s at end) = omega arith in
           let start' = start_same (between s at end) (next.0 - at) low in
@@ -259,9 +255,9 @@ module _ (way : Way) (s : List ℕ) (at end : ℕ) (on : at ≤ end) (within : e
 
       -- every kind
       body_moved : (kind : Kind) (rest : Budget) → next.0 ≤ length s →
-          body_taken way s kind arg first next scratch rest ≡ A.Read after left atom →
+          body_taken way s kind arg first next scratch rest ≡ Ok (after, left, atom) →
           body_taken way (between s at end) kind arg (earlier at first) (earlier at next) scratch rest
-          ≡ A.Read (earlier at after) left (moved at atom)
+          ≡ Ok (earlier at after, left, moved at atom)
       body_moved K.Special rest inside e =
           taken_moved K.Special rest next _ _ (special_moved (special_known (special_from arg))) e
       body_moved K.Int rest inside e =
@@ -281,17 +277,17 @@ module _ (way : Way) (s : List ℕ) (at end : ℕ) (on : at ≤ end) (within : e
       body_moved K.Bytes rest inside e = string_moved rest inside (outcome way s next.0 arg scratch) e
 
 -- the charge, and whether the atom is known, are the same for both
-judged_both : (here there : Place) (budget : Budget) (paid : BudgetAnswer) (k : Bool) (r : Refusal)
+judged_both : (here there : Place) (budget : Budget) (paid : Result Budget Refusal) (k : Bool) (r : Refusal)
     (f g : Budget → AtomAnswer) (p q : Place) (b : Budget) (x y : Atom) →
-    ((rest : Budget) → f rest ≡ A.Read p b x → g rest ≡ A.Read q b y) →
-    charged here budget paid (λ rest. pick k (f rest) (A.Refused here rest r)) ≡ A.Read p b x →
-    charged there budget paid (λ rest. pick k (g rest) (A.Refused there rest r)) ≡ A.Read q b y
-judged_both here there budget (BA.Left rest) true r f g p q b x y h e = h rest e
-judged_both here there budget (BA.Left rest) false r f g p q b x y h e = absurd (false≢true cc)
-judged_both here there budget (BA.Refused why) k r f g p q b x y h e = absurd (false≢true cc)
+    ((rest : Budget) → f rest ≡ Ok (p, b, x) → g rest ≡ Ok (q, b, y)) →
+    charged here budget paid (λ rest. pick k (f rest) (Err (here, rest, r))) ≡ Ok (p, b, x) →
+    charged there budget paid (λ rest. pick k (g rest) (Err (there, rest, r))) ≡ Ok (q, b, y)
+judged_both here there budget (Ok rest) true r f g p q b x y h e = h rest e
+judged_both here there budget (Ok rest) false r f g p q b x y h e = absurd (false≢true cc)
+judged_both here there budget (Err why) k r f g p q b x y h e = absurd (false≢true cc)
 
 module _ (way : Way) (s : List ℕ) (place : ℕ) (budget : Budget) (scratch : List ℕ) (after : Place) (left : Budget)
-    (atom : Atom) (read : atom_read way s place budget scratch ≡ A.Read after left atom) where
+    (atom : Atom) (read : atom_read way s place budget scratch ≡ Ok (after, left, atom)) where
   at : ℕ
   at = place_in (length s) place
 
@@ -309,12 +305,12 @@ module _ (way : Way) (s : List ℕ) (place : ℕ) (budget : Budget) (scratch : L
       (omega arith, omega arith)
 
   -- what follows its header, in those bytes
-  followed : (h : HeaderAnswer) → h ≡ H.Read atom.places.body atom.kind atom.arg →
-      atom_from way s (first_place s place) budget scratch h ≡ A.Read after left atom →
+  followed : (h : HeaderAnswer) → h ≡ Ok (atom.places.body, atom.kind, atom.arg) →
+      atom_from way s (first_place s place) budget scratch h ≡ Ok (after, left, atom) →
       atom_after way (between s (place_in (length s) place) after.0) atom.kind atom.arg
       (earlier (place_in (length s) place) (first_place s place))
       (earlier (place_in (length s) place) atom.places.body) budget scratch
-      ≡ A.Read (earlier (place_in (length s) place) after) left (moved (place_in (length s) place) atom)
+      ≡ Ok (earlier (place_in (length s) place) after, left, moved (place_in (length s) place) atom)
   unfolding judged
   followed h is e =
       let w = its_place in
@@ -330,12 +326,12 @@ module _ (way : Way) (s : List ℕ) (place : ℕ) (budget : Budget) (scratch : L
       (earlier (place_in (length s) place) after) left atom (moved (place_in (length s) place) atom)
       (λ rest f. body_moved way s (place_in (length s) place) after.0 its_end.0 its_end.1 (first_place s place)
       atom.places.body atom.arg after left atom scratch (omega arith) refl atom.kind rest (omega arith) f)
-      (subst (λ (x : HeaderAnswer). atom_from way s (first_place s place) budget scratch x ≡ A.Read after left atom) is e)
+      (subst (λ (x : HeaderAnswer). atom_from way s (first_place s place) budget scratch x ≡ Ok (after, left, atom)) is e)
 
   -- THE BYTES FROM FIRST TO AFTER ARE THE ATOM: they read alone as the same atom, with its places moved by the first
   pub alone :
       atom_read way (between s atom.places.first.0 atom.places.after.0) 0 budget scratch
-      ≡ A.Read (earlier atom.places.first.0 atom.places.after) left (moved atom.places.first.0 atom)
+      ≡ Ok (earlier atom.places.first.0 atom.places.after, left, moved atom.places.first.0 atom)
   unfolding atom_read
   alone =
       let w = its_place in
@@ -345,20 +341,20 @@ module _ (way : Way) (s : List ℕ) (place : ℕ) (budget : Budget) (scratch : L
       let m : atom.places.after ≡ after = w.at_after in
       let n = ap (λ (p : Place). p.0) m in
       let c = w.body_ordered in
-      let head : header_read way part 0 ≡ H.Read (earlier k atom.places.body) atom.kind atom.arg =
+      let head : header_read way part 0 ≡ Ok (earlier k atom.places.body, atom.kind, atom.arg) =
       header_moved way s k after.0 its_end.0 its_end.1 atom.places.body atom.kind atom.arg
       (omega arith) w.at_body in
       let z : place_in (length part) 0 ≡ k - k = place_same (length part) 0 (omega arith) ∙ nought k in
       let f : first_place part 0 ≡ earlier k (first_place s place) = ap (λ (i : ℕ). record { 0 = i }) z in
       let body = followed (header_read way s place) w.at_body read in
       let r : atom_from way part (first_place part 0) budget scratch (header_read way part 0)
-      ≡ A.Read (earlier k after) left (moved k atom) =
+      ≡ Ok (earlier k after, left, moved k atom) =
       ap (λ (p : Place). atom_from way part p budget scratch (header_read way part 0)) f
       ∙ ap (atom_from way part (earlier k (first_place s place)) budget scratch) head ∙ body in
       subst (λ (i : ℕ). atom_read way (between s i atom.places.after.0) 0 budget scratch
-      ≡ A.Read (earlier i atom.places.after) left (moved i atom)) (sym a)
+      ≡ Ok (earlier i atom.places.after, left, moved i atom)) (sym a)
       (subst (λ (q : Place). atom_read way (between s k q.0) 0 budget scratch
-      ≡ A.Read (earlier k q) left (moved k atom)) (sym m) r)
+      ≡ Ok (earlier k q, left, moved k atom)) (sym m) r)
     where
       nought : (k : ℕ) → 0 ≡ k - k
       nought k = omega arith

@@ -1,6 +1,7 @@
 -- Deliveries in shortest form, for the promises of document 02, K3: every list has its row of the check; what our
 -- writers of values write is the shortest bytes of what was given, and so accepted; and every accepted list is so
 -- written, but for a NaN of 2 bytes. A refusal 3, 4 or 6 is the tally's own.
+use Rattle.std.specs.Prelude.{Ok, Err}
 use mathlib.Core.Path.{◌≡◌, refl, ◌∙◌, sym, ap, subst}
 use mathlib.Core.Bool.{Bool, true, false≢true}
 use mathlib.Core.List.{List, [], ◌∷◌, ◌++◌, append-nil}
@@ -13,6 +14,8 @@ use lib.IntN.{ℤ}
 use lib.ListN.{length}
 use lib.Ieee.{binary32, binary64, to_bits}
 use lib.Ieee.Bits.{to_bits-lt}
+use Rattle.types.proofs.Answers.{err_two}
+use Rattle.types.specs.Answers.{Checked}
 use Rattle.types.specs.Forms.{listed, allowed_count, allowed_float}
 use Rattle.types.specs.Values.{value, joined, joined_signed}
 use Rattle.types.specs.declared.Kind.{Kind}
@@ -23,8 +26,6 @@ use Rattle.types.specs.declared.Places.{Places}
 use Rattle.types.specs.declared.Place.{Place}
 use Rattle.types.specs.declared.Refusal.{Refusal}
 use Rattle.types.specs.declared.Refusal.TheVariants as R
-use Rattle.types.specs.declared.Checked.{Checked}
-use Rattle.types.specs.declared.Checked.TheVariants as C
 use Rattle.types.specs.declared.TallyAnswer.TheVariants as TA
 use Rattle.cast.specs.Variants.{sign, width, in_range}
 use Rattle.header.specs.Header.{header_bytes}
@@ -34,7 +35,7 @@ use Rattle.little.proofs.Two.{holds_u_more, holds_s_more}
 use Rattle.integer.proofs.Counts.{allowed_bounds}
 use Rattle.binary.specs.Formats.{half, single, double, Meaning, finite, infinite, meaning, NotNan}
 use Rattle.binary.specs.Formats as Formats
-use Rattle.binary.specs.Conversions.{with_sign, candidate, has}
+use Rattle.binary.specs.Conversions.{with_sign, candidate}
 use Rattle.binary.specs.Conversions as Binary
 use Rattle.binary.proofs.Patterns.{one_pattern}
 use Rattle.binary.proofs.Narrowing.{infinite_here, infinity_lt}
@@ -72,8 +73,8 @@ use Rattle.promises.proofs.Demand2.{held_by_lem, natural_by}
 
 pub every_check : (s : List ℕ) → CheckRow s (told_checked (check_all s))
 every_check s =
-    ⊎_elim (λ a. as_checked C.Accepted (Answers.accepted_answer s a.0 a.1) (accepted a.1))
-    (λ r. as_checked (C.Refused r.why (record { 0 = length r.front_bytes })) (Answers.refused_answer s r)
+    ⊎_elim (λ a. as_checked (Ok tt) (Answers.accepted_answer s a.0 a.1) (accepted a.1))
+    (λ r. as_checked (Err (r.why, record { 0 = length r.front_bytes })) (Answers.refused_answer s r)
     (refused_at r.joined r.some r.accepted r.unfit)) (Answers.either s)
   where
     as_checked : (c : Checked) → check_all s ≡ c → CheckRow s (told_checked c) → CheckRow s (told_checked (check_all s))
@@ -86,7 +87,7 @@ one_check s (refused_at {front} {rest} {atoms} {why} e some a bad) =
 
 -- ---- and the tally
 
-pub accepted_tally : (s : List ℕ) → length s ≤ most_bytes → check_all s ≡ C.Accepted →
+pub accepted_tally : (s : List ℕ) → length s ≤ most_bytes → check_all s ≡ (Ok tt) →
     (atoms : List (List ℕ)) × (tally_all s ≡ TA.Done (last_places atoms) (priced atoms))
 accepted_tally s short e =
     let a = Answers.answer_accepted s e in (a.0, Price.tally_priced s a.0 short a.1.wholes)
@@ -110,16 +111,16 @@ tally_at s front rest atoms why short a e some (Checks.spoilt bad) other =
 tally_at s front rest atoms why short a e some (Checks.longer atom later split w long) other = absurd (other refl)
 
 pub refused_tally : (s : List ℕ) → length s ≤ most_bytes → (why : Refusal) (start : Place) →
-    check_all s ≡ C.Refused why start → (why ≡ R.NotShortest → ⊥) →
+    check_all s ≡ Err (why, start) → (why ≡ R.NotShortest → ⊥) →
     (last : Places) × (tally_all s ≡ TA.Stopped last why start)
 refused_tally s short why start e other =
     ⊎_elim (λ a. absurd (taken (Answers.accepted_answer s a.0 a.1))) (λ r. stops r (same r)) (Answers.either s)
   where
-    taken : check_all s ≡ C.Accepted → ⊥
+    taken : check_all s ≡ (Ok tt) → ⊥
     taken q = let x = sym e ∙ q in false≢true cc
 
     same : (r : Refused s) → (r.why ≡ why) × (record { 0 = length r.front_bytes } ≡ start)
-    same r = let x = sym (Answers.refused_answer s r) ∙ e in (cc, cc)
+    same r = err_two (sym (Answers.refused_answer s r) ∙ e)
 
     stops : (r : Refused s) → (r.why ≡ why) × (record { 0 = length r.front_bytes } ≡ start) →
         (last : Places) × (tally_all s ≡ TA.Stopped last why start)

@@ -2,6 +2,7 @@
 -- budget, and the scratch after it; at most one row fits; and an atom is read exactly if it is good. That every entry
 -- takes every input and ends is what it is for a contract without `requires` to be proved; that its answer is one, the
 -- modules named after the crates say.
+use Rattle.std.specs.Prelude.{Result, Ok, Err}
 use mathlib.Core.Path.{◌≡◌, refl, ◌∙◌, sym, ap, subst}
 use mathlib.Core.Logic.{◌⊎◌, inl, inr}
 use mathlib.Core.Bool.{Bool, true, false}
@@ -13,6 +14,8 @@ use lib.Dec.{leb, ltb, eqb}
 use lib.IntN.{ℤ, pos}
 use lib.ListN.{length, drop}
 use borrow.Author.Tests.{ltb-true, ltb-false, leb-true, leb-false, le-ltb, lt-ltb, ne_eqb}
+use Rattle.types.specs.declared.Refusal.{Refusal}
+use Rattle.types.specs.Answers.{AtomAnswer, HeaderAnswer}
 use Rattle.types.specs.Choice.{pick}
 use Rattle.types.specs.Ways.{exact}
 use Rattle.types.specs.Counters.{place_in, places_of}
@@ -25,13 +28,6 @@ use Rattle.types.specs.declared.Kind.TheVariants as K
 use Rattle.types.specs.declared.Place.{Place}
 use Rattle.types.specs.declared.Budget.{Budget}
 use Rattle.types.specs.declared.Refusal.TheVariants as R
-use Rattle.types.specs.declared.KindAnswer.TheVariants as KA
-use Rattle.types.specs.declared.BudgetAnswer.{BudgetAnswer}
-use Rattle.types.specs.declared.BudgetAnswer.TheVariants as BA
-use Rattle.types.specs.declared.HeaderAnswer.{HeaderAnswer}
-use Rattle.types.specs.declared.HeaderAnswer.TheVariants as H
-use Rattle.types.specs.declared.AtomAnswer.{AtomAnswer}
-use Rattle.types.specs.declared.AtomAnswer.TheVariants as A
 use Rattle.types.proofs.Counters.{place_same}
 use Rattle.header.specs.Header.{header_read, header_from, header_length, header_kind, header_argument}
 use Rattle.reader.specs.Strings.{string_answer, string_scratch, string_mark, scratch_needed, start_of}
@@ -52,7 +48,7 @@ use Rattle.promises.specs.Rows.{Number, int, uint, float, can_end, room_of, refu
 use Rattle.promises.proofs.Held.{outside, integer_told_lem, float_told_lem, special_told, string_copied}
 
 -- a code of 8 or more is none of the eight kinds
-pub unknown_kind : (n : ℕ) → 8 ≤ n → kind_from n ≡ KA.Refused (R.InvalidKind n)
+pub unknown_kind : (n : ℕ) → 8 ≤ n → kind_from n ≡ Err (R.InvalidKind n)
 unknown_kind n h =
     simp (
       differs 0 (omega arith),
@@ -116,17 +112,17 @@ module _ (way : Way) (s : List ℕ) (place : ℕ) (budget : Budget) (scratch : L
       Good way s budget scratch next kind arg →
       place_in (length s) (next.0 + body_length kind arg) ≡ end → budget.0 - charge_of kind arg ≡ rest →
       copied s next.0 (room_of way kind arg) scratch ≡ after → held way s next.0 kind arg ≡ holds →
-      Row way s place budget scratch (H.Read next kind arg) (ending kind end rest holds) after
+      Row way s place budget scratch (Ok (next, kind, arg)) (ending kind end rest holds) after
   read_as kind end rest after holds g e f h k =
       let answer : taking way s place next budget kind arg ≡ ending kind end rest holds = cc in
-      subst (λ (x : Told). Row way s place budget scratch (H.Read next kind arg) x after) answer
-      (subst (λ (t : List ℕ). Row way s place budget scratch (H.Read next kind arg)
+      subst (λ (x : Told). Row way s place budget scratch (Ok (next, kind, arg)) x after) answer
+      (subst (λ (t : List ℕ). Row way s place budget scratch (Ok (next, kind, arg))
       (taking way s place next budget kind arg) t) h (read g))
 
   -- a header only
   headed : (kind : Kind) (holds : List ℤ) → known kind arg ≡ true → body_length kind arg ≡ 0 →
       charge_of kind arg ≡ 0 → is_string kind ≡ false → held way s next.0 kind arg ≡ holds → next.0 ≤ length s →
-      Row way s place budget scratch (H.Read next kind arg) (ending kind next.0 budget.0 holds) scratch
+      Row way s place budget scratch (Ok (next, kind, arg)) (ending kind next.0 budget.0 holds) scratch
   headed kind holds k l c i h within =
       let there : next.0 + body_length kind arg ≤ length s = omega arith in
       let room = no_room_lem way kind arg i in
@@ -137,26 +133,26 @@ module _ (way : Way) (s : List ℕ) (place : ℕ) (budget : Budget) (scratch : L
       (ap (λ (n : ℕ). copied s next.0 n scratch) room) h
 
   -- a charge, and what follows it
-  charges : (kind : Kind) (body : Budget → AtomAnswer) (after : BudgetAnswer → List ℕ) (t : Bool) →
-      ltb budget.0 (charge_of kind arg) ≡ t → after (BA.Refused R.TooManyBytesRead) ≡ scratch →
+  charges : (kind : Kind) (body : Budget → AtomAnswer) (after : Result Budget Refusal → List ℕ) (t : Bool) →
+      ltb budget.0 (charge_of kind arg) ≡ t → after (Err R.TooManyBytesRead) ≡ scratch →
       (charge_of kind arg ≤ budget.0 →
-      Row way s place budget scratch (H.Read next kind arg) (told_atom (body (less budget (charge_of kind arg))))
-      (after (BA.Left (less budget (charge_of kind arg))))) →
-      Row way s place budget scratch (H.Read next kind arg)
+      Row way s place budget scratch (Ok (next, kind, arg)) (told_atom (body (less budget (charge_of kind arg))))
+      (after (Ok (less budget (charge_of kind arg))))) →
+      Row way s place budget scratch (Ok (next, kind, arg))
       (told_atom
-      (charged next budget (pick t (BA.Refused R.TooManyBytesRead) (BA.Left (less budget (charge_of kind arg)))) body))
-      (after (pick t (BA.Refused R.TooManyBytesRead) (BA.Left (less budget (charge_of kind arg)))))
+      (charged next budget (pick t (Err R.TooManyBytesRead) (Ok (less budget (charge_of kind arg)))) body))
+      (after (pick t (Err R.TooManyBytesRead) (Ok (less budget (charge_of kind arg)))))
   charges kind body after true e k f = rw k (five (ltb-true budget.0 (charge_of kind arg) e))
   charges kind body after false e k f = f (ltb-false budget.0 (charge_of kind arg) e)
 
   -- the body of an atom that is known, and the refusal of one that is not
   abbrev formed : Kind → (Budget → AtomAnswer) → Budget → AtomAnswer
-  formed kind body rest = pick (known kind arg) (body rest) (A.Refused next rest (unknown kind arg))
+  formed kind body rest = pick (known kind arg) (body rest) (Err (next, rest, unknown kind arg))
 
   -- a number of an allowed count, whose bytes are there
   number_whole : (kind : Kind) (holds : List ℤ) → Number kind → known kind arg ≡ true →
       charge_of kind arg ≤ budget.0 → held way s next.0 kind arg ≡ holds → next.0 + count_of arg ≤ length s →
-      Row way s place budget scratch (H.Read next kind arg)
+      Row way s place budget scratch (Ok (next, kind, arg))
       (ending kind (next.0 + count_of arg) (budget.0 - charge_of kind arg) holds) scratch
   number_whole kind holds w k b h there =
       let n = its_count kind w arg in
@@ -171,7 +167,7 @@ module _ (way : Way) (s : List ℕ) (place : ℕ) (budget : Budget) (scratch : L
   number_filled : (kind : Kind) (holds : List ℤ) → Number kind → known kind arg ≡ true →
       charge_of kind arg ≤ budget.0 → held way s next.0 kind arg ≡ holds → length s < next.0 + count_of arg →
       exact way ≡ false →
-      Row way s place budget scratch (H.Read next kind arg)
+      Row way s place budget scratch (Ok (next, kind, arg))
       (ending kind (length s) (budget.0 - charge_of kind arg) holds) scratch
   number_filled kind holds w k b h out x =
       let n = its_count kind w arg in
@@ -185,7 +181,7 @@ module _ (way : Way) (s : List ℕ) (place : ℕ) (budget : Budget) (scratch : L
   -- or that is cut
   number_cut : (kind : Kind) → Number kind → known kind arg ≡ true → charge_of kind arg ≤ budget.0 →
       length s < next.0 + count_of arg → exact way ≡ true →
-      Row way s place budget scratch (H.Read next kind arg) (refusal 4 (end_of s) (less budget (charge_of kind arg)) [])
+      Row way s place budget scratch (Ok (next, kind, arg)) (refusal 4 (end_of s) (less budget (charge_of kind arg)) [])
       scratch
   number_cut kind w k b out x =
       let n = its_count kind w arg in
@@ -207,12 +203,12 @@ module _ (way : Way) (s : List ℕ) (place : ℕ) (budget : Budget) (scratch : L
       held way s next.0 kind arg
       ≡ pos 2 ∷ integer_told (integer_of kind (count_of arg) (number_at (count_of arg) s next.0))) →
       (a t x : Bool) → known kind arg ≡ a → leb (next.0 + count_of arg) (length s) ≡ t → exact way ≡ x →
-      Row way s place budget scratch (H.Read next kind arg)
+      Row way s place budget scratch (Ok (next, kind, arg))
       (told_atom
       (pick a
       (integer_atom kind arg (first_place s place) next (less budget (charge_of kind arg))
       (integer_body way s next.0 kind (count_of arg)))
-      (A.Refused next (less budget (charge_of kind arg)) (unsupported kind (count_of arg))))) scratch
+      (Err (next, less budget (charge_of kind arg), unsupported kind (count_of arg))))) scratch
   unfolding integer_body
   integers kind w b h false t x e f g = six w b e
   integers kind w b h true true x e f g =
@@ -225,7 +221,7 @@ module _ (way : Way) (s : List ℕ) (place : ℕ) (budget : Budget) (scratch : L
   -- a float likewise
   floats : charge_of K.Float arg ≤ budget.0 → (a t x : Bool) → known K.Float arg ≡ a →
       leb (next.0 + count_of arg) (length s) ≡ t → exact way ≡ x →
-      Row way s place budget scratch (H.Read next K.Float arg)
+      Row way s place budget scratch (Ok (next, K.Float, arg))
       (told_atom (formed K.Float (float_taken way s arg (first_place s place) next) (less budget (charge_of K.Float arg))))
       scratch
   unfolding float_body
@@ -240,7 +236,7 @@ module _ (way : Way) (s : List ℕ) (place : ℕ) (budget : Budget) (scratch : L
 
   -- a string, by its three outcomes
   strings : arg ≤ budget.0 → next.0 ≤ length s → Outcome way s next.0 arg scratch →
-      Row way s place budget scratch (H.Read next K.Bytes arg)
+      Row way s place budget scratch (Ok (next, K.Bytes, arg))
       (told_atom
       (bytes_atom arg (first_place s place) next (less budget arg) (string_answer way s next.0 arg scratch)))
       (string_scratch way s next.0 arg scratch)
@@ -266,7 +262,7 @@ module _ (way : Way) (s : List ℕ) (place : ℕ) (budget : Budget) (scratch : L
 -- a special, by its argument
 specials : (way : Way) (s : List ℕ) (place : ℕ) (budget : Budget) (scratch : List ℕ) (next : Place) (n : ℕ) →
     next.0 ≤ length s → (t : Bool) → ltb n 7 ≡ t →
-    Row way s place budget scratch (H.Read next K.Special n)
+    Row way s place budget scratch (Ok (next, K.Special, n))
     (told_atom (formed way s place budget scratch next n K.Special (special_taken n (first_place s place) next) budget))
     scratch
 specials way s place budget scratch next n h true e =
@@ -276,7 +272,7 @@ specials way s place budget scratch next n h false e = rw e (three (ltb-false n 
 -- what follows a header
 after_header : (way : Way) (s : List ℕ) (place : ℕ) (budget : Budget) (scratch : List ℕ) (next : Place) (arg : ℕ)
     (kind : Kind) → next.0 ≤ length s →
-    Row way s place budget scratch (H.Read next kind arg)
+    Row way s place budget scratch (Ok (next, kind, arg))
     (told_atom (atom_after way s kind arg (first_place s place) next budget scratch))
     (scratch_after way s kind arg next budget scratch)
 unfolding judged
@@ -319,8 +315,8 @@ after_header way s place budget scratch next arg K.Bytes h =
 from_header : (way : Way) (s : List ℕ) (place : ℕ) (budget : Budget) (scratch : List ℕ) (at end : ℕ) (kind : Kind)
     (arg : ℕ) (t x : Bool) → leb end (length s) ≡ t → exact way ≡ x → (header : HeaderAnswer) →
     header
-    ≡ pick t (H.Read (record { 0 = end }) kind arg)
-    (pick x (H.Refused (end_of s) R.Eof) (H.Read (end_of s) kind arg)) →
+    ≡ pick t (Ok (record { 0 = end }, kind, arg))
+    (pick x (Err (end_of s, R.Eof)) (Ok (end_of s, kind, arg))) →
     Row way s place budget scratch header (told_atom (atom_from way s (first_place s place) budget scratch header))
     (scratch_from way s budget scratch header)
 from_header way s place budget scratch at end kind arg true x e f header h =
@@ -347,8 +343,8 @@ not_known budget next kind arg =
     (refusal 6 next (less budget (charge_of kind arg)) (kind_code kind ∷ count_of arg ∷ []))
 
 abbrev verdict : Way → List ℕ → ℕ → Budget → List ℕ → HeaderAnswer → Told
-verdict way s place budget scratch (H.Refused end r) = refusal 4 (end_of s) budget []
-verdict way s place budget scratch (H.Read next kind arg) =
+verdict way s place budget scratch (Err (end, r)) = refusal 4 (end_of s) budget []
+verdict way s place budget scratch (Ok (next, kind, arg)) =
     pick (ltb budget.0 (charge_of kind arg)) (refusal 5 next budget [])
     (pick (known kind arg)
     (pick (ltb (length s) (next.0 + body_length kind arg))
@@ -359,8 +355,8 @@ verdict way s place budget scratch (H.Read next kind arg) =
     (not_known budget next kind arg))
 
 abbrev afterwards : Way → List ℕ → List ℕ → HeaderAnswer → List ℕ
-afterwards way s scratch (H.Refused end r) = scratch
-afterwards way s scratch (H.Read next kind arg) = copied s next.0 (room_of way kind arg) scratch
+afterwards way s scratch (Err (end, r)) = scratch
+afterwards way s scratch (Ok (next, kind, arg)) = copied s next.0 (room_of way kind arg) scratch
 
 no_special : (kind : Kind) → Number kind → eqb (kind_code kind) 0 ≡ false
 no_special K.Int int = refl
@@ -375,7 +371,7 @@ no_special K.Bytes none = elim none [ ]
 read_verdict : (way : Way) (s : List ℕ) (place : ℕ) (budget : Budget) (scratch : List ℕ) (next : Place) (kind : Kind)
     (arg : ℕ) (t : Bool) → ltb (length s) (next.0 + body_length kind arg) ≡ t →
     Good way s budget scratch next kind arg →
-    taking way s place next budget kind arg ≡ verdict way s place budget scratch (H.Read next kind arg)
+    taking way s place next budget kind arg ≡ verdict way s place budget scratch (Ok (next, kind, arg))
 read_verdict way s place budget scratch next kind arg false e g =
     rw (
       le-ltb budget.0 (charge_of kind arg) g.afforded,
@@ -439,7 +435,7 @@ one_row {way} {s} {place} {budget} {scratch} {header} {a} {b} p q =
 -- A ROW THAT TELLS 0 IS OF A GOOD ATOM
 pub good_row : {way : Way} {s : List ℕ} {place : ℕ} {budget : Budget} {scratch : List ℕ} {header : HeaderAnswer}
     {answer : Told} {after : List ℕ} → Row way s place budget scratch header answer after → answer.number ≡ 0 →
-    (next : Place) × (kind : Kind) × (arg : ℕ) × (header ≡ H.Read next kind arg)
+    (next : Place) × (kind : Kind) × (arg : ℕ) × (header ≡ Ok (next, kind, arg))
     × Good way s budget scratch next kind arg
 good_row (four_in_header x) e = absurd (omega arith)
 good_row (three h) e = absurd (omega arith)
@@ -451,7 +447,7 @@ good_row (read {next} {kind} {arg} g) e = (next, kind, arg, refl, g)
 
 -- A GOOD ATOM IS READ
 pub good_read : {way : Way} {s : List ℕ} {place : ℕ} {budget : Budget} {scratch : List ℕ} {header : HeaderAnswer}
-    {answer : Told} {after : List ℕ} {next : Place} {kind : Kind} {arg : ℕ} → header ≡ H.Read next kind arg →
+    {answer : Told} {after : List ℕ} {next : Place} {kind : Kind} {arg : ℕ} → header ≡ Ok (next, kind, arg) →
     Row way s place budget scratch header answer after → Good way s budget scratch next kind arg →
     (answer ≡ taking way s place next budget kind arg) × (after ≡ copied s next.0 (room_of way kind arg) scratch)
 good_read {way} {s} {place} {budget} {scratch} {header} {answer} {after} {next} {kind} {arg} e r g =

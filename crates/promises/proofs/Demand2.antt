@@ -2,6 +2,7 @@
 -- the written bytes, with anything before and after them, read as that value at the place just past them, under every
 -- way, lent or copied, from any budget of at least the price, leaving the budget less the price; and the atom's places
 -- are where the bytes stand. Strings and specials rest on `atom.Back.bytes_back` and `atom.Back.special_back`.
+use Rattle.std.specs.Prelude.{Ok}
 use mathlib.Core.Path.{◌≡◌, refl, ◌∙◌, sym, ap}
 use mathlib.Core.Bool.{true, false≢true}
 use mathlib.Core.List.{List, [], ◌++◌, append_assoc, append-nil}
@@ -19,7 +20,6 @@ use Rattle.types.specs.declared.Place.{Place}
 use Rattle.types.specs.declared.Budget.{Budget}
 use Rattle.types.specs.declared.Nucleus.{Nucleus}
 use Rattle.types.specs.declared.Nucleus.TheVariants as N
-use Rattle.types.specs.declared.AtomAnswer.TheVariants as A
 use Rattle.types.proofs.Counters.{place_same}
 use Rattle.types.proofs.Specials.{special_small}
 use Rattle.header.specs.Header.{header_bytes, header_from, header_argument, header_length}
@@ -34,7 +34,6 @@ use Rattle.little.proofs.Width.{to_length}
 use Rattle.little.proofs.Two.{bits_lt}
 use Rattle.little.proofs.Shortest.{shortest_s_holds, shortest_s-listed, shortest_u_holds, shortest_u-listed}
 use Rattle.integer.specs.Integers.{integer_kind, integer_of, int_of, uint_of, integer_body}
-use Rattle.types.specs.declared.IntegerAnswer.TheVariants as IA
 use Rattle.types.specs.Counters.{place_in}
 use borrow.Author.Tests.{ltb-true, lt-ltb}
 use Rattle.integer.proofs.Counts.{allowed_bounds}
@@ -84,7 +83,7 @@ behind : (before bytes : List ℕ) (kind : Kind) (arg : ℕ) (rest : Budget) (nu
     header_length bytes ≡ long →
     atom_taken kind arg (record { 0 = length before }) (record { 0 = length before + long }) rest
     (record { 0 = length before + length bytes }) nucleus
-    ≡ A.Read (record { 0 = length before + length bytes }) rest (atom_behind before bytes kind arg nucleus)
+    ≡ Ok (record { 0 = length before + length bytes }, rest, atom_behind before bytes kind arg nucleus)
 behind before bytes kind arg rest nucleus long e =
     ap (λ (n : ℕ). atom_taken kind arg (record { 0 = length before }) (record { 0 = length before + n }) rest
     (record { 0 = length before + length bytes }) nucleus) (sym e)
@@ -117,9 +116,7 @@ pub integer_back : (way : Way) (kind : Kind) (n bits : ℕ) (before after : List
     bits < 256 ^ n →
     number_charge n ≤ budget.0 →
     atom_read way (before ++ (integer_bytes kind n bits ++ after)) (length before) budget scratch
-    ≡ A.Read (record { 0 = length before + length (integer_bytes kind n bits) })
-    (record { 0 = budget.0 - number_charge n })
-    (atom_behind before (integer_bytes kind n bits) kind (n - 1) (N.Integer (integer_of kind n bits)))
+    ≡ Ok (record { 0 = length before + length (integer_bytes kind n bits) }, record { 0 = budget.0 - number_charge n }, atom_behind before (integer_bytes kind n bits) kind (n - 1) (N.Integer (integer_of kind n bits)))
 unfolding integer_bytes
 integer_back way kind n bits before after budget scratch k a l b =
     let range = allowed_bounds n a in
@@ -143,7 +140,7 @@ integer_back way kind n bits before after budget scratch k a l b =
     (paid budget (number_charge n) b) kind k a)
     ∙ ap (integer_atom kind (n - 1) first next left) (ap (λ (p : ℕ). integer_body way s p kind n) (sym place)
     ∙ body_back way kind n bits (before ++ hd) after s split l
-    ∙ ap (λ (p : ℕ). IA.Read (record { 0 = p + n }) (integer_of kind n bits)) place)
+    ∙ ap (λ (p : ℕ). Ok (record { 0 = p + n }, integer_of kind n bits)) place)
     ∙ ap (λ (p : ℕ). atom_taken kind (n - 1) first next left (record { 0 = p }) holds) end
     ∙ behind before (hd ++ le) kind (n - 1) left holds (length hd) (header_long kind (n - 1) le arg)
 
@@ -152,10 +149,12 @@ pub signed_back : (way : Way) (z : ℤ) (before after : List ℕ) (budget : Budg
     holds_s 16 z ≡ true →
     number_charge (shortest_s z) ≤ budget.0 →
     (atom_read way (before ++ (signed_bytes z ++ after)) (length before) budget scratch
-    ≡ A.Read (record { 0 = length before + length (signed_bytes z) })
-    (record { 0 = budget.0 - number_charge (shortest_s z) })
-    (atom_behind before (signed_bytes z) K.Int (shortest_s z - 1)
-    (N.Integer (int_of (shortest_s z) (twos_bits (shortest_s z) z)))))
+    ≡ Ok (
+      record { 0 = length before + length (signed_bytes z) },
+      record { 0 = budget.0 - number_charge (shortest_s z) },
+      atom_behind before (signed_bytes z) K.Int (shortest_s z - 1)
+          (N.Integer (int_of (shortest_s z) (twos_bits (shortest_s z) z))),
+    ))
     × (value (int_of (shortest_s z) (twos_bits (shortest_s z) z)) ≡ z)
 unfolding signed_bytes
 signed_back way z before after budget scratch h b =
@@ -171,9 +170,7 @@ pub unsigned_back : (way : Way) (k : ℕ) (before after : List ℕ) (budget : Bu
     k < 256 ^ 16 →
     number_charge (shortest_u k) ≤ budget.0 →
     (atom_read way (before ++ (unsigned_bytes k ++ after)) (length before) budget scratch
-    ≡ A.Read (record { 0 = length before + length (unsigned_bytes k) })
-    (record { 0 = budget.0 - number_charge (shortest_u k) })
-    (atom_behind before (unsigned_bytes k) K.UInt (shortest_u k - 1) (N.Integer (uint_of (shortest_u k) k))))
+    ≡ Ok (record { 0 = length before + length (unsigned_bytes k) }, record { 0 = budget.0 - number_charge (shortest_u k) }, atom_behind before (unsigned_bytes k) K.UInt (shortest_u k - 1) (N.Integer (uint_of (shortest_u k) k))))
     × (value (uint_of (shortest_u k) k) ≡ pos k)
 unfolding unsigned_bytes
 unsigned_back way k before after budget scratch h b =
@@ -202,8 +199,7 @@ pub float_back : (way : Way) (own bits : ℕ) (bytes before after : List ℕ) (S
     (scratch : List ℕ) →
     number_charge S.count ≤ budget.0 →
     atom_read way (before ++ (bytes ++ after)) (length before) budget scratch
-    ≡ A.Read (record { 0 = length before + length bytes }) (record { 0 = budget.0 - number_charge S.count })
-    (atom_behind before bytes K.Float (S.count - 1) (N.Float (float_of S.count S.stored) S.stored))
+    ≡ Ok (record { 0 = length before + length bytes }, record { 0 = budget.0 - number_charge S.count }, atom_behind before bytes K.Float (S.count - 1) (N.Float (float_of S.count S.stored) S.stored))
 unfolding atom_read
 float_back way own bits bytes before after S budget scratch b =
     let n : ℕ = S.count in
@@ -326,8 +322,7 @@ module _ (way : Way) (before after : List ℕ) (budget : Budget) (scratch : List
   back_as : (v : Value) (charge : ℕ) (kind : Kind) (arg : ℕ) (nucleus : Nucleus) →
       price (written v) ≡ charge →
       atom_read way (before ++ (written v ++ after)) (length before) budget scratch
-      ≡ A.Read (record { 0 = length before + length (written v) }) (record { 0 = budget.0 - charge })
-      (atom_behind before (written v) kind arg nucleus) →
+      ≡ Ok (record { 0 = length before + length (written v) }, record { 0 = budget.0 - charge }, atom_behind before (written v) kind arg nucleus) →
       Carries (before ++ (written v ++ after))
       (atom_scratch way (before ++ (written v ++ after)) (length before) budget scratch)
       (atom_behind before (written v) kind arg nucleus) v →
@@ -335,8 +330,7 @@ module _ (way : Way) (before after : List ℕ) (budget : Budget) (scratch : List
   back_as v charge kind arg nucleus e r c = record {
     atom = atom_behind before (written v) kind arg nucleus;
     is_read_back =
-        r ∙ ap (λ (n : ℕ). A.Read (record { 0 = length before + length (written v) }) (record { 0 = budget.0 - n })
-        (atom_behind before (written v) kind arg nucleus)) (sym e);
+        r ∙ ap (λ (n : ℕ). Ok (record { 0 = length before + length (written v) }, record { 0 = budget.0 - n }, atom_behind before (written v) kind arg nucleus)) (sym e);
     stands = refl;
     carries = c;
   }

@@ -1,5 +1,6 @@
 -- THE THREE DEMANDS, of the definitions that the contracts cite. What each rests on stands in the modules that it
 -- names.
+use Rattle.std.specs.Prelude.{Ok, Err}
 use mathlib.Core.Path.{◌≡◌, refl, ap}
 use mathlib.Core.Bool.{Bool}
 use mathlib.Core.Logic.{◌⊎◌, inl, inr, ⊎_elim}
@@ -9,6 +10,7 @@ use lib.Dec.{T, lit<}
 use lib.IntN.{pos}
 use lib.ListN.{length}
 use lib.Ieee as Ieee
+use Rattle.types.specs.Answers.{HeaderAnswer}
 use Rattle.types.specs.Counters.{no_places}
 use Rattle.types.specs.Ways.{unnamed_way}
 use Rattle.types.specs.declared.Way.{Way}
@@ -16,7 +18,6 @@ use Rattle.types.specs.declared.Way.TheVariants as W
 use Rattle.types.specs.declared.Place.{Place}
 use Rattle.types.specs.declared.Places.{Places}
 use Rattle.types.specs.declared.Atom.{Atom}
-use Rattle.types.specs.declared.AtomAnswer.TheVariants as A
 use Rattle.types.specs.declared.Budget.{Budget}
 use Rattle.types.specs.declared.Kind.{Kind}
 use Rattle.types.specs.declared.Kind.TheVariants as K
@@ -24,13 +25,9 @@ use Rattle.types.specs.declared.Integer.{Integer}
 use Rattle.types.specs.declared.Float.{Float}
 use Rattle.types.specs.declared.Refusal.{Refusal}
 use Rattle.types.specs.declared.Refusal.TheVariants as R
-use Rattle.types.specs.declared.Checked.TheVariants as C
 use Rattle.types.specs.declared.TallyAnswer.TheVariants as TA
-use Rattle.types.specs.declared.HeaderAnswer.{HeaderAnswer}
-use Rattle.types.specs.declared.HeaderAnswer.TheVariants as H
 use Rattle.header.specs.Header.{header_read, header_length}
 use Rattle.binary.specs.Formats.{half, single, double}
-use Rattle.binary.specs.Conversions.{answer16, answer32}
 use Rattle.binary.proofs.Values.{of_bits_means}
 use Rattle.binary.proofs.Widths.{half-single, single-double}
 use Rattle.binary.proofs.Laws.{widened_keeps, widened-nan}
@@ -91,13 +88,13 @@ demand1_one = Demand1.one_row
 pub demand1_bad : (way : Way) (s : List ℕ) (place : ℕ) (budget : Budget) (scratch : List ℕ) →
     (told_atom (atom_read way s place budget scratch)).number ≡ 0 →
     (next : Place) × (kind : Kind) × (arg : ℕ)
-    × (header_read way s place ≡ H.Read next kind arg) × Good way s budget scratch next kind arg
+    × (header_read way s place ≡ Ok (next, kind, arg)) × Good way s budget scratch next kind arg
 demand1_bad way s place budget scratch e = Demand1.good_row (demand1 way s place budget scratch) e
 
 -- and nothing else is: what is good past its header is read.
 pub demand1_good : (way : Way) (s : List ℕ) (place : ℕ) (budget : Budget) (scratch : List ℕ) (next : Place)
     (kind : Kind) (arg : ℕ) →
-    header_read way s place ≡ H.Read next kind arg →
+    header_read way s place ≡ Ok (next, kind, arg) →
     Good way s budget scratch next kind arg →
     (told_atom (atom_read way s place budget scratch) ≡ taking way s place next budget kind arg)
     × (atom_scratch way s place budget scratch ≡ copied s next.0 (room_of way kind arg) scratch)
@@ -165,16 +162,16 @@ demand1_run_atom = Runs.barred_atom
 -- THE PLACES OF AN ATOM (document 02, K1): every atom that is read stands where it says, whatever the way,
 pub demand1_places : (way : Way) (s : List ℕ) (place : ℕ) (budget : Budget) (scratch : List ℕ) (after : Place)
     (left : Budget) (atom : Atom) →
-    atom_read way s place budget scratch ≡ A.Read after left atom →
+    atom_read way s place budget scratch ≡ Ok (after, left, atom) →
     Stands way s place after atom
 demand1_places = Stands.stands
 
 -- its bytes read alone, from place 0, as the same atom moved by its first place,
 pub demand1_alone : (way : Way) (s : List ℕ) (place : ℕ) (budget : Budget) (scratch : List ℕ) (after : Place)
     (left : Budget) (atom : Atom) →
-    atom_read way s place budget scratch ≡ A.Read after left atom →
+    atom_read way s place budget scratch ≡ Ok (after, left, atom) →
     atom_read way (between s atom.places.first.0 atom.places.after.0) 0 budget scratch
-    ≡ A.Read (earlier atom.places.first.0 atom.places.after) left (moved atom.places.first.0 atom)
+    ≡ Ok (earlier atom.places.first.0 atom.places.after, left, moved atom.places.first.0 atom)
 demand1_alone = Alone.alone
 
 -- and of any chain of reads, each from the place after the one before, all three rise or stay level; under exact
@@ -208,8 +205,8 @@ demand2_floats = record {
   widens_single = widened_keeps single-double;
   nan-half = λ bits s t e. widened-nan half single bits s t (lit< tt) e;
   nan-single = λ bits s t e. widened-nan single double bits s t (lit< tt) e;
-  narrows_single = FloatCasts.narrowing_rows single half (λ n. told_narrowed16 (answer16 n)) (λ q. refl) refl;
-  narrows_double = FloatCasts.narrowing_rows double single (λ n. told_narrowed32 (answer32 n)) (λ q. refl) refl;
+  narrows_single = FloatCasts.narrowing_rows single half (λ n. told_narrowed16 (n)) (λ q. refl) refl;
+  narrows_double = FloatCasts.narrowing_rows double single (λ n. told_narrowed32 (n)) (λ q. refl) refl;
   whole = FloatCasts.whole_floats;
 }
 
@@ -320,12 +317,12 @@ pub shortest_check_one : (s : List ℕ) {answer : Told} → CheckRow s answer �
 shortest_check_one = Deliveries.one_check
 
 -- What is accepted, the tally counts; what is refused by 3, 4 or 6, it refuses alike, at the same place.
-pub shortest_tally : (s : List ℕ) → length s ≤ most_bytes → check_all s ≡ C.Accepted →
+pub shortest_tally : (s : List ℕ) → length s ≤ most_bytes → check_all s ≡ (Ok tt) →
     (atoms : List (List ℕ)) × (tally_all s ≡ TA.Done (last_places atoms) (priced atoms))
 shortest_tally = Deliveries.accepted_tally
 
 pub shortest_tally_refused : (s : List ℕ) → length s ≤ most_bytes → (why : Refusal) (start : Place) →
-    check_all s ≡ C.Refused why start →
+    check_all s ≡ Err (why, start) →
     (why ≡ R.NotShortest → ⊥) →
     (last : Places) × (tally_all s ≡ TA.Stopped last why start)
 shortest_tally_refused = Deliveries.refused_tally

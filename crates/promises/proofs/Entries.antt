@@ -1,4 +1,5 @@
 -- The entries beside the atom answer by the rows of document 01's table, for demand 1.
+use Rattle.std.specs.Prelude.{Ok, Err}
 use mathlib.Core.Path.{◌≡◌, refl, ◌∙◌, sym, ap}
 use mathlib.Core.Logic.{inl, inr}
 use mathlib.Core.Bool.{Bool, true, false, ◌&&◌}
@@ -9,6 +10,7 @@ use lib.Dec.{ltb}
 use lib.IntN.{ℤ, pos}
 use lib.ListN.{length}
 use borrow.Author.Tests.{le-ltb, lt-ltb, ltb-true, ltb-false}
+use Rattle.types.specs.Answers.{FloatAnswer, HeaderAnswer, IntegerAnswer, VersionAnswer}
 use Rattle.types.specs.Choice.{pick}
 use Rattle.types.specs.Ways.{exact, up_to}
 use Rattle.types.specs.Counters.{place_in}
@@ -17,14 +19,6 @@ use Rattle.types.specs.declared.Way.{Way}
 use Rattle.types.specs.declared.Kind.{Kind}
 use Rattle.types.specs.declared.Budget.{Budget}
 use Rattle.types.specs.declared.Refusal.TheVariants as R
-use Rattle.types.specs.declared.HeaderAnswer.{HeaderAnswer}
-use Rattle.types.specs.declared.HeaderAnswer.TheVariants as H
-use Rattle.types.specs.declared.VersionAnswer.{VersionAnswer}
-use Rattle.types.specs.declared.VersionAnswer.TheVariants as VA
-use Rattle.types.specs.declared.IntegerAnswer.{IntegerAnswer}
-use Rattle.types.specs.declared.IntegerAnswer.TheVariants as IA
-use Rattle.types.specs.declared.FloatAnswer.{FloatAnswer}
-use Rattle.types.specs.declared.FloatAnswer.TheVariants as FA
 use Rattle.types.proofs.Ways.{up_to_within, up_to_filled, up_to_eof}
 use Rattle.lent.proofs.Stores.{answer_short, answer_room, content_short, content_room}
 use Rattle.header.specs.Header.{header_from, header_kind, header_argument}
@@ -100,13 +94,13 @@ specials arg = record { taken = special_known_lem arg; three = λ h. ap told_spe
 
 module _ (way : Way) (s : List ℕ) (place : ℕ) where
   abbrev header_at : ℕ → HeaderAnswer
-  header_at p = H.Read (record { 0 = p }) (header_kind (onward s place)) (header_argument (onward s place))
+  header_at p = Ok (record { 0 = p }, header_kind (onward s place), header_argument (onward s place))
 
   pub headers : HeaderRows way s place
   unfolding header_from
   headers = record {
-    taken = λ h. ap told_header (up_there way s (header_end s place) header_at (H.Refused (end_of s) R.Eof) h);
-    four = λ h. ap told_header (up_cut way s (header_end s place) header_at (H.Refused (end_of s) R.Eof) h);
+    taken = λ h. ap told_header (up_there way s (header_end s place) header_at (Err (end_of s, R.Eof)) h);
+    four = λ h. ap told_header (up_cut way s (header_end s place) header_at (Err (end_of s, R.Eof)) h);
   }
 
   abbrev judged_at : ℕ → VersionAnswer
@@ -116,17 +110,17 @@ module _ (way : Way) (s : List ℕ) (place : ℕ) where
   told_by b =
       told_version
       (pick b
-      (VA.Read (record { 0 = place_in (length s) (start_of s place + 4) }) (big_endian (onward s place) % 256))
-      (VA.Refused (record { 0 = place_in (length s) (start_of s place + 4) }) R.IncompatibleVersion))
+      (Ok (record { 0 = place_in (length s) (start_of s place + 4) }, big_endian (onward s place) % 256))
+      (Err (record { 0 = place_in (length s) (start_of s place + 4) }, R.IncompatibleVersion)))
 
   pub signatures : SignatureRows way s place
   unfolding version_from
   signatures = record {
-    taken = λ h e. ap told_version (up_there way s (start_of s place + 4) judged_at (VA.Refused (end_of s) R.Eof) h)
+    taken = λ h e. ap told_version (up_there way s (start_of s place + 4) judged_at (Err (end_of s, R.Eof)) h)
         ∙ ap told_by e;
-    one = λ h e. ap told_version (up_there way s (start_of s place + 4) judged_at (VA.Refused (end_of s) R.Eof) h)
+    one = λ h e. ap told_version (up_there way s (start_of s place + 4) judged_at (Err (end_of s, R.Eof)) h)
         ∙ ap told_by e;
-    four = λ h. ap told_version (up_cut way s (start_of s place + 4) judged_at (VA.Refused (end_of s) R.Eof) h);
+    four = λ h. ap told_version (up_cut way s (start_of s place + 4) judged_at (Err (end_of s, R.Eof)) h);
   }
 
 pub budgets : (budget : Budget) (charge : ℕ) → BudgetRows budget charge
@@ -137,7 +131,7 @@ budgets budget charge = record {
 
 module _ (way : Way) (s : List ℕ) (place : ℕ) (kind : Kind) (count : ℕ) where
   abbrev integer_at : ℕ → IntegerAnswer
-  integer_at p = IA.Read (record { 0 = p }) (integer_of kind count (number_at count s (start_of s place)))
+  integer_at p = Ok (record { 0 = p }, integer_of kind count (number_at count s (start_of s place)))
 
   pub integers : IntegerRows way s place kind count
   unfolding integer_from integer_body
@@ -145,17 +139,16 @@ module _ (way : Way) (s : List ℕ) (place : ℕ) (kind : Kind) (count : ℕ) wh
     seven = λ k. rw k refl;
     six = λ k a. rw (k, a) refl;
     four = λ k a h. rw (k, a)
-        (ap told_integer (up_cut way s (start_of s place + count) integer_at (IA.Refused (end_of s) R.Eof) h));
+        (ap told_integer (up_cut way s (start_of s place + count) integer_at (Err (end_of s, R.Eof)) h));
     taken = λ k a h. rw (k, a)
-        (ap told_integer (up_there way s (start_of s place + count) integer_at (IA.Refused (end_of s) R.Eof) h)
+        (ap told_integer (up_there way s (start_of s place + count) integer_at (Err (end_of s, R.Eof)) h)
         ∙ ap (λ (l : List ℤ). told 0 (pos (place_in (length s) (start_of s place + count)) ∷ l))
         (integer_told_lem count a (number_at count s (start_of s place)) kind));
   }
 
   abbrev float_at : ℕ → FloatAnswer
   float_at p =
-      FA.Read (record { 0 = p }) (float_of count (number_at count s (start_of s place)))
-      (number_at count s (start_of s place))
+      Ok (record { 0 = p }, float_of count (number_at count s (start_of s place)), number_at count s (start_of s place))
 
   pub floats : FloatRows way s place kind count
   unfolding float_from float_body
@@ -163,9 +156,9 @@ module _ (way : Way) (s : List ℕ) (place : ℕ) (kind : Kind) (count : ℕ) wh
     seven = λ k. rw k refl;
     six = λ k a. rw (k, a) refl;
     four = λ k a h. rw (k, a)
-        (ap told_float (up_cut way s (start_of s place + count) float_at (FA.Refused (end_of s) R.Eof) h));
+        (ap told_float (up_cut way s (start_of s place + count) float_at (Err (end_of s, R.Eof)) h));
     taken = λ k a h. rw (k, a)
-        (ap told_float (up_there way s (start_of s place + count) float_at (FA.Refused (end_of s) R.Eof) h)
+        (ap told_float (up_there way s (start_of s place + count) float_at (Err (end_of s, R.Eof)) h)
         ∙ ap (λ (l : List ℤ). told 0
         (pos (place_in (length s) (start_of s place + count)) ∷ pos (number_at count s (start_of s place)) ∷ l))
         (float_told_lem count (number_at count s (start_of s place)) (allowed_is count a)));

@@ -1,5 +1,6 @@
 -- Exact reading succeeds exactly on the atoms that are whole and of a known form, from a budget of at least their
 -- charge. What is whole and known is said over the bytes from the atom's place on, by `types.Forms`.
+use Rattle.std.specs.Prelude.{Ok, Err}
 use mathlib.Core.Path.{◌≡◌, refl, ◌∙◌, sym, ap}
 use mathlib.Core.Bool.{Bool, true, false, false≢true}
 use mathlib.Core.List.{List, []}
@@ -7,6 +8,8 @@ use Prim.Native.Nat.{ℕ, ◌+◌, ◌-◌, ◌≤◌}
 use lib.Dec.{leb}
 use lib.ListN.{length, drop}
 use borrow.Author.Tests.{leb-true, leb-false}
+use Rattle.types.proofs.Answers.{same_ok}
+use Rattle.types.specs.Answers.{AtomAnswer}
 use Rattle.types.specs.Counters.{places_of}
 use Rattle.types.specs.Forms.{known, body_length, charge_of, is_string, unknown}
 use Rattle.types.specs.declared.Way.TheVariants as W
@@ -14,9 +17,6 @@ use Rattle.types.specs.declared.Place.{Place}
 use Rattle.types.specs.declared.Places.{Places}
 use Rattle.types.specs.declared.Budget.{Budget}
 use Rattle.types.specs.declared.Atom.{Atom}
-use Rattle.types.specs.declared.Skipped.TheVariants as SK
-use Rattle.types.specs.declared.AtomAnswer.{AtomAnswer}
-use Rattle.types.specs.declared.AtomAnswer.TheVariants as A
 use Rattle.header.specs.Header.{header_kind, header_argument, header_length}
 use Rattle.atom.specs.Atoms.{atom_read}
 use Rattle.dictionary.specs.Steps.{forgotten, skipped, body_past}
@@ -53,7 +53,7 @@ module _ (s : List ℕ) (at : ℕ) (within : at ≤ length s) (budget : Budget) 
 
 -- ONLY IF: what exact reading takes is whole and known
 pub taken_is_whole : (s : List ℕ) (at : ℕ) → at ≤ length s → (budget : Budget) (place : Place) (rest : Budget)
-    (atom : Atom) → atom_read W.ExactLent s at budget [] ≡ A.Read place rest atom → Whole s at budget
+    (atom : Atom) → atom_read W.ExactLent s at budget [] ≡ Ok (place, rest, atom) → Whole s at budget
 taken_is_whole s at within budget place rest atom e =
     skipped_at s at within budget place rest atom.places (is_string atom.kind)
     (leb (at + header_length (drop at s)) (length s)) refl (read_step s at budget place rest atom e)
@@ -63,13 +63,17 @@ taken_is_whole s at within budget place rest atom e =
 pub record Taken (s : List ℕ) (at : ℕ) (budget : Budget) : Type 0 where
   pub atom : Atom
   pub is_read_back : atom_read W.ExactLent s at budget []
-      ≡ A.Read (record {
-        0 = at + header_length (drop at s) + body_length (header_kind (drop at s))
-            (header_argument (drop at s));
-      }) (record {
-        0 = budget.0 - charge_of (header_kind (drop at s))
-            (header_argument (drop at s));
-      }) atom
+      ≡ Ok (
+        record {
+          0 = at + header_length (drop at s) + body_length (header_kind (drop at s))
+              (header_argument (drop at s));
+        },
+        record {
+          0 = budget.0 - charge_of (header_kind (drop at s))
+              (header_argument (drop at s));
+        },
+        atom,
+      )
   pub stands : atom.places
       ≡ places_of (record { 0 = at }) (record { 0 = at + header_length (drop at s) })
       (record {
@@ -78,10 +82,15 @@ pub record Taken (s : List ℕ) (at : ℕ) (budget : Budget) : Type 0 where
       })
 
 remembered : (place : Place) (rest : Budget) (places : Places) (string : Bool) (a : AtomAnswer) →
-    forgotten a ≡ SK.Past place rest places string →
-    (x : Atom) × (a ≡ A.Read place rest x) × (x.places ≡ places)
-remembered place rest places string (A.Read p b y) e = (y, cc, cc)
-remembered place rest places string (A.Refused p b r) e = absurd (false≢true cc)
+    forgotten a ≡ Ok (place, rest, places, string) →
+    (x : Atom) × (a ≡ Ok (place, rest, x)) × (x.places ≡ places)
+remembered place rest places string (Ok (p, b, y)) e =
+    let parts = same_ok e in (
+      y,
+      ap (λ (x : Place × Budget × Places × Bool). Ok (x.0, x.1, y)) parts,
+      ap (λ (x : Place × Budget × Places × Bool). x.2) parts,
+    )
+remembered place rest places string (Err (p, b, r)) e = absurd (false≢true cc)
 
 -- IF: what is whole and known is taken
 pub whole_is_taken : (s : List ℕ) (at : ℕ) → at ≤ length s → (budget : Budget) → Whole s at budget → Taken s at budget

@@ -1,6 +1,7 @@
 -- The casts to floats, by document 01's words, for demand 2: "`as_f32` of an F64 needs an equal value"; "`as_f32` takes
 -- what `as_i32` takes from -2^24 to 2^24 - 1, `as_f64` what `as_i64` takes from -2^53 to 2^53 - 1; `as_float` tries the
 -- first, then the second". And the narrowing of patterns.
+use Rattle.std.specs.Prelude.{Result, Ok, Err, Option, Some, None}
 use mathlib.Core.Path.{◌≡◌, refl, sym, ap, ◌∙◌, subst}
 use mathlib.Core.Bool.{Bool, true, false}
 use mathlib.Core.List.{List, [], ◌∷◌}
@@ -17,11 +18,9 @@ use Rattle.types.specs.declared.Integer.{Integer}
 use Rattle.types.specs.declared.Float.TheVariants as F
 use Rattle.types.specs.declared.Refusal.{Refusal}
 use Rattle.types.specs.declared.Refusal.TheVariants as R
-use Rattle.types.specs.declared.AsF32.{AsF32}
-use Rattle.types.specs.declared.AsF64.{AsF64}
 use Rattle.binary.specs.Formats.{Layout, single, double, sign_weight, Meaning, finite, infinite, nan, meaning, NotNan}
 use Rattle.binary.specs.Formats.{SameValue}
-use Rattle.binary.specs.Conversions.{Narrowed, kept, lost, narrowed_meaning, narrowed}
+use Rattle.binary.specs.Conversions.{narrowed_meaning, narrowed}
 use Rattle.binary.specs.Floats.{float_meaning, plain, units_of}
 use Rattle.binary.proofs.Values.{to_bits_means}
 use Rattle.binary.proofs.Laws.{narrowed_sound, narrowed_complete}
@@ -53,7 +52,7 @@ module _ (x : Ieee.Float) (f : T (Ieee.fits Ieee.binary64 x)) where
 
   -- an equal binary32 value: the value is taken
   equal_taken : (q : ℕ) → q < 2 * sign_weight single → NotNan (meaning single q) →
-      meaning single q ≡ float_meaning x → Values.as_f32 (F.F64 x) ≡ AsF32.Value x
+      meaning single q ≡ float_meaning x → Values.as_f32 (F.F64 x) ≡ Ok x
   unfolding Values.as_f32
   equal_taken q l n e =
       let k : NotNan (float_meaning x) = subst NotNan e n in
@@ -66,20 +65,20 @@ module _ (x : Ieee.Float) (f : T (Ieee.fits Ieee.binary64 x)) where
   -- none: refused
   unequal_refused :
       ((q : ℕ) → q < 2 * sign_weight single → NotNan (meaning single q) → meaning single q ≡ float_meaning x → ⊥) →
-      Values.as_f32 (F.F64 x) ≡ AsF32.Refused R.ImpreciseCastWouldLoseData
+      Values.as_f32 (F.F64 x) ≡ Err R.ImpreciseCastWouldLoseData
   unfolding Values.as_f32
   unequal_refused none = by (float_meaning x) refl
     where
-      found : NotNan (float_meaning x) → (r : Narrowed) → narrowed double single (Ieee.to_bits Ieee.binary64 x) ≡ r →
-          Values.if_equal x (narrowed_meaning single (float_meaning x)) ≡ AsF32.Refused R.ImpreciseCastWouldLoseData
-      found k (kept q) h =
+      found : NotNan (float_meaning x) → (r : Option ℕ) → narrowed double single (Ieee.to_bits Ieee.binary64 x) ≡ r →
+          Values.if_equal x (narrowed_meaning single (float_meaning x)) ≡ Err R.ImpreciseCastWouldLoseData
+      found k (Some q) h =
           let v = narrowed_sound double single (Ieee.to_bits Ieee.binary64 x) q h in
           let e = v.2 ∙ bits_mean k in
           absurd (none q v.0 (subst NotNan (sym e) k) e)
-      found k lost h = ap (Values.if_equal x) (sym (bits_narrow k) ∙ h)
+      found k None h = ap (Values.if_equal x) (sym (bits_narrow k) ∙ h)
 
       by : (m : Meaning) → float_meaning x ≡ m →
-          Values.if_equal x (narrowed_meaning single (float_meaning x)) ≡ AsF32.Refused R.ImpreciseCastWouldLoseData
+          Values.if_equal x (narrowed_meaning single (float_meaning x)) ≡ Err R.ImpreciseCastWouldLoseData
       by (finite s m) e = found (subst NotNan (sym e) tt) (narrowed double single (Ieee.to_bits Ieee.binary64 x)) refl
       by (infinite s) e = found (subst NotNan (sym e) tt) (narrowed double single (Ieee.to_bits Ieee.binary64 x)) refl
       by (nan s t) e = ap (λ (m : Meaning). Values.if_equal x (narrowed_meaning single m)) e
@@ -96,18 +95,18 @@ module _ (x : Ieee.Float) (f : T (Ieee.fits Ieee.binary64 x)) where
 
 -- ---- the narrowing of a pattern
 
-module _ (from to : Layout) (tell : Narrowed → Told)
-    (told-exact : (q : ℕ) → tell (kept q) ≡ told 0 (pos q ∷ [])) (told-lost : tell lost ≡ told 0 []) where
+module _ (from to : Layout) (tell : Option ℕ → Told)
+    (told-exact : (q : ℕ) → tell (Some q) ≡ told 0 (pos q ∷ [])) (told-lost : tell None ≡ told 0 []) where
   pub narrowing_rows : NarrowingRows from to (λ bits. tell (narrowed from to bits))
   narrowing_rows = record {
     equal = λ bits q v. ap tell (narrowed_complete from to bits q v) ∙ told-exact q;
     none_equal = λ bits none. by bits none (narrowed from to bits) refl;
   }
     where
-      by : (bits : ℕ) → ((q : ℕ) → SameValue from to bits q → ⊥) → (n : Narrowed) → narrowed from to bits ≡ n →
+      by : (bits : ℕ) → ((q : ℕ) → SameValue from to bits q → ⊥) → (n : Option ℕ) → narrowed from to bits ≡ n →
           tell (narrowed from to bits) ≡ told 0 []
-      by bits none (kept q) e = absurd (none q (narrowed_sound from to bits q e))
-      by bits none lost e = ap tell e ∙ told-lost
+      by bits none (Some q) e = absurd (none q (narrowed_sound from to bits q e))
+      by bits none None e = ap tell e ∙ told-lost
 
 -- ---- an integer as a float
 
@@ -173,22 +172,22 @@ same_number : {a b : Told} → a ≡ b → a.number ≡ b.number
 same_number e = ap (λ (t : Told). t.number) e
 
 -- the first float, or else the second, or its refusal
-first : (a : AsF32) (b : AsF64) (numbers : List ℤ) → told_as_f32 a ≡ told 0 numbers →
+first : (a : Result Ieee.Float Refusal) (b : Result Ieee.Float Refusal) (numbers : List ℤ) → told_as_f32 a ≡ told 0 numbers →
     told_as_float (Casts.first_float a b) ≡ told 0 (pos 32 ∷ numbers)
-first (AsF32.Value v) b numbers e = ap (λ (t : Told). told 0 (pos 32 ∷ t.values)) e
-first (AsF32.Refused r) b numbers e = absurd (some_number r (same_number e))
+first (Ok v) b numbers e = ap (λ (t : Told). told 0 (pos 32 ∷ t.values)) e
+first (Err r) b numbers e = absurd (some_number r (same_number e))
 
-second : (a : AsF32) (b : AsF64) (numbers : List ℤ) → told_as_f32 a ≡ told 8 [] → told_as_f64 b ≡ told 0 numbers →
+second : (a : Result Ieee.Float Refusal) (b : Result Ieee.Float Refusal) (numbers : List ℤ) → told_as_f32 a ≡ told 8 [] → told_as_f64 b ≡ told 0 numbers →
     told_as_float (Casts.first_float a b) ≡ told 0 (pos 64 ∷ numbers)
-second (AsF32.Value v) b numbers e h = let k = same_number e in absurd (omega arith)
-second (AsF32.Refused r) (AsF64.Value v) numbers e h = ap (λ (t : Told). told 0 (pos 64 ∷ t.values)) h
-second (AsF32.Refused r) (AsF64.Refused q) numbers e h = absurd (some_number q (same_number h))
+second (Ok v) b numbers e h = let k = same_number e in absurd (omega arith)
+second (Err r) (Ok v) numbers e h = ap (λ (t : Told). told 0 (pos 64 ∷ t.values)) h
+second (Err r) (Err q) numbers e h = absurd (some_number q (same_number h))
 
-neither : (a : AsF32) (b : AsF64) → told_as_f32 a ≡ told 8 [] → told_as_f64 b ≡ told 8 [] →
+neither : (a : Result Ieee.Float Refusal) (b : Result Ieee.Float Refusal) → told_as_f32 a ≡ told 8 [] → told_as_f64 b ≡ told 8 [] →
     told_as_float (Casts.first_float a b) ≡ told 8 []
-neither (AsF32.Value v) b e h = let k = same_number e in absurd (omega arith)
-neither (AsF32.Refused r) (AsF64.Value v) e h = let k = same_number h in absurd (omega arith)
-neither (AsF32.Refused r) (AsF64.Refused q) e h = h
+neither (Ok v) b e h = let k = same_number e in absurd (omega arith)
+neither (Err r) (Ok v) e h = let k = same_number h in absurd (omega arith)
+neither (Err r) (Err q) e h = h
 
 pub whole_floats : (x : Integer) → WholeFloatRows x
 whole_floats x = record {

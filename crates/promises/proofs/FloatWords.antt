@@ -1,5 +1,6 @@
 -- The words of a float that the exports answer mean that float's value, by IEEE 754: both the value's bits, at the
 -- width that is said beside them, and the stored bits, at the width of the atom's own count.
+use Rattle.std.specs.Prelude.{Result, Ok, Err}
 use mathlib.Core.Path.{◌≡◌, refl, ◌∙◌, sym, ap, subst}
 use mathlib.Core.Bool.{Bool, true, false}
 use mathlib.Core.List.{List}
@@ -8,6 +9,7 @@ use native.Mathlib.Omega.{arith}
 use lib.Dec.{leb}
 use lib.ListN.{length, get_or}
 use lib.Ieee.{binary32, binary64, of_bits}
+use Rattle.types.specs.Answers.{AtomAnswer, BytesAnswer, HeaderAnswer, IntegerAnswer}
 use Rattle.types.specs.Choice.{pick}
 use Rattle.types.specs.Kinds.{kind_code, special_from, special_known}
 use Rattle.types.specs.Forms.{count_of, allowed_float, known, charge_of, unknown}
@@ -24,17 +26,6 @@ use Rattle.types.specs.declared.Nucleus.{Nucleus}
 use Rattle.types.specs.declared.Nucleus.TheVariants as N
 use Rattle.types.specs.declared.Special.{Special}
 use Rattle.types.specs.declared.Special.TheVariants as S
-use Rattle.types.specs.declared.HeaderAnswer.{HeaderAnswer}
-use Rattle.types.specs.declared.HeaderAnswer.TheVariants as H
-use Rattle.types.specs.declared.BudgetAnswer.{BudgetAnswer}
-use Rattle.types.specs.declared.BudgetAnswer.TheVariants as BA
-use Rattle.types.specs.declared.IntegerAnswer.{IntegerAnswer}
-use Rattle.types.specs.declared.IntegerAnswer.TheVariants as IA
-use Rattle.types.specs.declared.FloatAnswer.TheVariants as FA
-use Rattle.types.specs.declared.BytesAnswer.{BytesAnswer}
-use Rattle.types.specs.declared.BytesAnswer.TheVariants as B
-use Rattle.types.specs.declared.AtomAnswer.{AtomAnswer}
-use Rattle.types.specs.declared.AtomAnswer.TheVariants as A
 use Rattle.types.specs.declared.Refusal.{Refusal}
 use Rattle.types.specs.declared.Refusal.TheVariants as R
 use Rattle.header.specs.Header.{header_read}
@@ -71,8 +62,8 @@ Known arg N.DynamicMap = Unit {0}
 Known arg N.DynamicEnd = Unit {0}
 
 abbrev AllKnown : AtomAnswer → Type 0
-AllKnown (A.Read p b a) = Known a.arg a.nucleus
-AllKnown (A.Refused p b r) = Unit {0}
+AllKnown (Ok (p, b, a)) = Known a.arg a.nucleus
+AllKnown (Err (p, b, r)) = Unit {0}
 
 special_known_lem : (arg : ℕ) (first next : Place) (rest : Budget) (special : Special) →
     AllKnown (header_taken K.Special arg first next (special_nucleus special) rest)
@@ -84,38 +75,38 @@ special_known_lem arg first next rest S.Named = tt
 special_known_lem arg first next rest S.DynamicMap = tt
 special_known_lem arg first next rest S.DynamicEnd = tt
 
-charged_known : (next : Place) (budget : Budget) (b : BudgetAnswer) (body : Budget → AtomAnswer) →
+charged_known : (next : Place) (budget : Budget) (b : Result Budget Refusal) (body : Budget → AtomAnswer) →
     ((rest : Budget) → AllKnown (body rest)) → AllKnown (charged next budget b body)
-charged_known next budget (BA.Left rest) body h = h rest
-charged_known next budget (BA.Refused r) body h = tt
+charged_known next budget (Ok rest) body h = h rest
+charged_known next budget (Err r) body h = tt
 
 picked_known : (k : Bool) (a : AtomAnswer) (p : Place) (rest : Budget) (r : Refusal) → (k ≡ true → AllKnown a) →
-    AllKnown (pick k a (A.Refused p rest r))
+    AllKnown (pick k a (Err (p, rest, r)))
 picked_known true a p rest r h = h refl
 picked_known false a p rest r h = tt
 
 module _ (arg : ℕ) (first next : Place) (rest : Budget) where
   integer_known : (kind : Kind) (a : IntegerAnswer) → AllKnown (integer_atom kind arg first next rest a)
-  integer_known kind (IA.Read p x) = tt
-  integer_known kind (IA.Refused p r) = tt
+  integer_known kind (Ok (p, x)) = tt
+  integer_known kind (Err (p, r)) = tt
 
   bytes_known : (a : BytesAnswer) → AllKnown (bytes_atom arg first next rest a)
-  bytes_known (B.Read p m) = tt
-  bytes_known (B.Refused p r) = tt
+  bytes_known (Ok (p, m)) = tt
+  bytes_known (Err (p, r)) = tt
 
 module _ (s : List ℕ) (fits : (i : ℕ) → get_or s i 0 < 256) where
   module _ (arg : ℕ) (first next : Place) (rest : Budget) where
     read_known : (p : Place) → Allowed (count_of arg) →
         AllKnown (float_atom arg first next rest
-        (FA.Read p (float_of (count_of arg) (number_at (count_of arg) s next.0)) (number_at (count_of arg) s next.0)))
+        (Ok (p, float_of (count_of arg) (number_at (count_of arg) s next.0), number_at (count_of arg) s next.0)))
     read_known p a = (a, number_lt (count_of arg) s next.0 fits, refl)
 
     body_known : (p q end : Place) (t u : Bool) → Allowed (count_of arg) →
         AllKnown (float_atom arg first next rest
         (pick t
-        (FA.Read p (float_of (count_of arg) (number_at (count_of arg) s next.0)) (number_at (count_of arg) s next.0))
-        (pick u (FA.Refused end R.Eof)
-        (FA.Read q (float_of (count_of arg) (number_at (count_of arg) s next.0)) (number_at (count_of arg) s next.0)))))
+        (Ok (p, float_of (count_of arg) (number_at (count_of arg) s next.0), number_at (count_of arg) s next.0))
+        (pick u (Err (end, R.Eof))
+        (Ok (q, float_of (count_of arg) (number_at (count_of arg) s next.0), number_at (count_of arg) s next.0)))))
     body_known p q end true u a = read_known p a
     body_known p q end false true a = tt
     body_known p q end false false a = read_known q a
@@ -144,11 +135,11 @@ module _ (s : List ℕ) (fits : (i : ℕ) → get_or s i 0 < 256) where
 
     after_known : (h : HeaderAnswer) → AllKnown (atom_from way s first budget scratch h)
     unfolding judged
-    after_known (H.Refused p r) = tt
-    after_known (H.Read next kind arg) =
+    after_known (Err (p, r)) = tt
+    after_known (Ok (next, kind, arg)) =
         charged_known next budget (budget_after budget (charge_of kind arg))
         (λ rest. pick (known kind arg) (body_taken way s kind arg first next scratch rest)
-        (A.Refused next rest (unknown kind arg)))
+        (Err (next, rest, unknown kind arg)))
         (λ rest. picked_known (known kind arg) (body_taken way s kind arg first next scratch rest) next rest
         (unknown kind arg) (taken_known kind arg next rest))
 
@@ -214,7 +205,7 @@ module _ (arg stored : ℕ) (word : arg < 2 ^ 64) (lt : stored < 256 ^ count_of 
 pub float_words_lem : (way : Way) (s : List ℕ) (place : ℕ) (budget : Budget) (scratch : List ℕ) →
     ((i : ℕ) → get_or s i 0 < 256) →
     (p : Place) (b : Budget) (kind : Kind) (arg : ℕ) (places : Places) (x : Float) (stored : ℕ) →
-    arg < 2 ^ 64 → atom_read way s place budget scratch ≡ A.Read p b (atom_of kind arg places (N.Float x stored)) →
+    arg < 2 ^ 64 → atom_read way s place budget scratch ≡ Ok (p, b, atom_of kind arg places (N.Float x stored)) →
     (said_atom (atom_read way s place budget scratch)
     ≡ atom_said p.0 b.0 (kind_code kind) arg (float_words arg x stored) places.first.0 places.body.0)
     × Means arg x (float_words arg x stored)

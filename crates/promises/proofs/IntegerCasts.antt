@@ -1,5 +1,6 @@
 -- The casts of an integer to another answer by document 01's words, for demand 2: one law over the sign, the width and
 -- what is told.
+use Rattle.std.specs.Prelude.{Ok, Err}
 use mathlib.Core.Path.{◌≡◌, refl, ◌∙◌, ap}
 use mathlib.Core.Bool.{Bool, true, false, ◌&&◌, false≢true}
 use mathlib.Core.List.{List, [], ◌∷◌}
@@ -12,15 +13,6 @@ use Rattle.types.specs.Choice.{pick}
 use Rattle.types.specs.Values.{value, wide_of}
 use Rattle.types.specs.declared.Refusal.{Refusal}
 use Rattle.types.specs.declared.Refusal.TheVariants as R
-use Rattle.types.specs.declared.AsI8.TheVariants as AsI8
-use Rattle.types.specs.declared.AsI16.TheVariants as AsI16
-use Rattle.types.specs.declared.AsI32.TheVariants as AsI32
-use Rattle.types.specs.declared.AsI64.TheVariants as AsI64
-use Rattle.types.specs.declared.AsU8.TheVariants as AsU8
-use Rattle.types.specs.declared.AsU16.TheVariants as AsU16
-use Rattle.types.specs.declared.AsU32.TheVariants as AsU32
-use Rattle.types.specs.declared.AsU64.TheVariants as AsU64
-use Rattle.types.specs.declared.AsWide.TheVariants as AsWide
 use Rattle.cast.specs.Variants.{width, in_range}
 use Rattle.cast.specs.Casts.{cast}
 use Rattle.cast.proofs.Made.{cast-from}
@@ -57,18 +49,18 @@ natural w (negsuc n) h = absurd (false≢true h)
 
 pub every_cast : EveryCast
 every_cast = record {
-  as_i8_rows = cast_rows signed w8 AsI8.Value AsI8.Refused told_as_i8 itself (λ z h. refl) refl;
-  as_i16_rows = cast_rows signed w16 AsI16.Value AsI16.Refused told_as_i16 itself (λ z h. refl) refl;
-  as_i32_rows = cast_rows signed w32 AsI32.Value AsI32.Refused told_as_i32 itself (λ z h. refl) refl;
-  as_i64_rows = cast_rows signed w64 AsI64.Value AsI64.Refused told_as_i64 itself (λ z h. refl) refl;
-  as_i128_rows = cast_rows signed w128 (λ z. AsWide.Value (wide_of z)) AsWide.Refused told_as_wide in_words (λ z h. refl) refl;
+  as_i8_rows = cast_rows signed w8 Ok Err told_as_i8 itself (λ z h. refl) refl;
+  as_i16_rows = cast_rows signed w16 Ok Err told_as_i16 itself (λ z h. refl) refl;
+  as_i32_rows = cast_rows signed w32 Ok Err told_as_i32 itself (λ z h. refl) refl;
+  as_i64_rows = cast_rows signed w64 Ok Err told_as_i64 itself (λ z h. refl) refl;
+  as_i128_rows = cast_rows signed w128 (λ z. Ok (wide_of z)) Err told_as_wide in_words (λ z h. refl) refl;
   as_u8_rows =
-      cast_rows unsigned w8 (λ z. AsU8.Value (nat_abs z)) AsU8.Refused told_as_u8 itself (natural w8) refl;
+      cast_rows unsigned w8 (λ z. Ok (nat_abs z)) Err told_as_u8 itself (natural w8) refl;
   as_u16_rows =
-      cast_rows unsigned w16 (λ z. AsU16.Value (nat_abs z)) AsU16.Refused told_as_u16 itself (natural w16) refl;
+      cast_rows unsigned w16 (λ z. Ok (nat_abs z)) Err told_as_u16 itself (natural w16) refl;
   as_u32_rows =
-      cast_rows unsigned w32 (λ z. AsU32.Value (nat_abs z)) AsU32.Refused told_as_u32 itself (natural w32) refl;
+      cast_rows unsigned w32 (λ z. Ok (nat_abs z)) Err told_as_u32 itself (natural w32) refl;
   as_u64_rows =
-      cast_rows unsigned w64 (λ z. AsU64.Value (nat_abs z)) AsU64.Refused told_as_u64 itself (natural w64) refl;
-  as_u128_rows = cast_rows unsigned w128 (λ z. AsWide.Value (wide_of z)) AsWide.Refused told_as_wide in_words (λ z h. refl) refl;
+      cast_rows unsigned w64 (λ z. Ok (nat_abs z)) Err told_as_u64 itself (natural w64) refl;
+  as_u128_rows = cast_rows unsigned w128 (λ z. Ok (wide_of z)) Err told_as_wide in_words (λ z h. refl) refl;
 }

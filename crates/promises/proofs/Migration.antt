@@ -1,6 +1,7 @@
 -- What changes for a program that named no way: the laws of `promises.Migration`. They rest on what the two ways differ
 -- in, `atom.Agree.atom_differ` and `header.Ways`; that what is read exactly is whole is demand 1's, and where an atom
 -- ends that was read filled is `Stands`.
+use Rattle.std.specs.Prelude.{Ok, Err}
 use mathlib.Core.Path.{◌≡◌, refl, ◌∙◌, sym, ap}
 use mathlib.Core.Bool.{Bool, true, false, false≢true}
 use mathlib.Core.Logic.{◌⊎◌, inl, inr, ⊎_elim}
@@ -10,6 +11,8 @@ use native.Mathlib.Omega.{arith}
 use lib.Dec.{ltb, leb}
 use lib.ListN.{length}
 use borrow.Author.Tests.{ltb-true, leb-true, leb-false}
+use Rattle.types.proofs.Answers.{ok_two, ok_three, err_two, err_three}
+use Rattle.types.specs.Answers.{AtomAnswer, HeaderAnswer, VersionAnswer}
 use Rattle.types.specs.Choice.{pick}
 use Rattle.types.specs.Counters.{place_in}
 use Rattle.types.specs.Forms.{body_length, is_string}
@@ -21,10 +24,6 @@ use Rattle.types.specs.declared.Budget.{Budget}
 use Rattle.types.specs.declared.Atom.{Atom}
 use Rattle.types.specs.declared.Refusal.{Refusal}
 use Rattle.types.specs.declared.Refusal.TheVariants as R
-use Rattle.types.specs.declared.HeaderAnswer.TheVariants as H
-use Rattle.types.specs.declared.VersionAnswer.TheVariants as VA
-use Rattle.types.specs.declared.AtomAnswer.{AtomAnswer}
-use Rattle.types.specs.declared.AtomAnswer.TheVariants as A
 use Rattle.types.proofs.Ways.{Differ, same, cut, differ_reads, differ_cut}
 use Rattle.types.proofs.Counters.{place_same}
 use Rattle.header.specs.Header.{header_read, header_from, header_kind, header_argument}
@@ -70,23 +69,24 @@ still_by Eof (cut ended past) f = inr (ended, past)
 module _ (s : List ℕ) (place : ℕ) where
   pub header_filled :
       header_read W.Filled s place
-      ≡ H.Read (record { 0 = place_in (length s) (header_end s place) }) (header_kind (onward s place))
-      (header_argument (onward s place))
+      ≡ Ok (record { 0 = place_in (length s) (header_end s place) }, header_kind (onward s place), header_argument (onward s place))
   unfolding header_from
   header_filled =
       up_to_left (length s) (header_end s place)
-      (λ p. H.Read (record { 0 = p }) (header_kind (onward s place)) (header_argument (onward s place)))
-      (H.Refused (end_of s) R.Eof)
+      (λ p. Ok (record { 0 = p }, header_kind (onward s place), header_argument (onward s place)))
+      (Err (end_of s, R.Eof))
 
 -- and one that is read exactly: the same, up to its own end
 module _ (s : List ℕ) (place : ℕ) (next : Place) (kind : Kind) (arg : ℕ) where
   exact_by : (t : Bool) (end : ℕ) (k : Kind) (a : ℕ) → leb end (length s) ≡ t →
-      pick t (H.Read (record { 0 = end }) k a) (H.Refused (record { 0 = length s }) R.Eof) ≡ H.Read next kind arg →
+      pick {X = HeaderAnswer} t (Ok (record { 0 = end }, k, a)) (Err (record { 0 = length s }, R.Eof))
+      ≡ Ok (next, kind, arg) →
       (next.0 ≡ end) × (kind ≡ k) × (arg ≡ a)
-  exact_by true end k a h e = (cc, cc, cc)
+  exact_by true end k a h e =
+      let parts = ok_three (sym e) in (ap (λ (p : Place). p.0) parts.0, parts.1, parts.2)
   exact_by false end k a h e = absurd (false≢true cc)
 
-  pub header_exact : header_read W.ExactLent s place ≡ H.Read next kind arg →
+  pub header_exact : header_read W.ExactLent s place ≡ Ok (next, kind, arg) →
       (next.0 ≡ header_end s place) × (kind ≡ header_kind (onward s place)) × (arg ≡ header_argument (onward s place))
   unfolding header_from
   header_exact = exact_by (leb (header_end s place) (length s)) (header_end s place) _ _ refl
@@ -95,7 +95,7 @@ module _ (s : List ℕ) (place : ℕ) (next : Place) (kind : Kind) (arg : ℕ) w
 module _ (s : List ℕ) (place : ℕ) (budget : Budget) (scratch : List ℕ) where
   -- read filled, and cut: the place after it is the source's end
   filled_end : (after : Place) (left : Budget) (atom : Atom) →
-      atom_read W.Filled s place budget scratch ≡ A.Read after left atom → length s < atom_end s place → after ≡ end_of s
+      atom_read W.Filled s place budget scratch ≡ Ok (after, left, atom) → length s < atom_end s place → after ≡ end_of s
   filled_end after left atom e past =
       let st : Stands W.Filled s place after atom = Stands.stands W.Filled s place budget scratch after left atom e in
       let read = sym (header_filled s place) ∙ st.at_body in
@@ -103,8 +103,8 @@ module _ (s : List ℕ) (place : ℕ) (budget : Budget) (scratch : List ℕ) whe
       let arg = header_argument (onward s place) in
       let from : ℕ = place_in (length s) (header_end s place) in
       let at_body : from ≡ atom.places.body.0 = ap header_place read in
-      let its_kind : kind ≡ atom.kind = cc read in
-      let its_argument : arg ≡ atom.arg = cc read in
+      let its_kind : kind ≡ atom.kind = (ok_three read).1 in
+      let its_argument : arg ≡ atom.arg = (ok_three read).2 in
       let ends : place_in (length s) (from + body_length kind arg) ≡ length s =
       place_again (length s) (header_end s place) (body_length kind arg)
       ∙ past_end (length s) (atom_end s place) (omega arith)
@@ -115,17 +115,17 @@ module _ (s : List ℕ) (place : ℕ) (budget : Budget) (scratch : List ℕ) whe
       sym st.at_after ∙ ap (λ (n : ℕ). record { 0 = n }) long
 
   cut_by : {after stop : Place} {left rest : Budget} {atom : Atom} {why : Refusal} →
-      atom_read W.Filled s place budget scratch ≡ A.Read after left atom →
-      atom_read W.ExactLent s place budget scratch ≡ A.Refused stop rest why →
+      atom_read W.Filled s place budget scratch ≡ Ok (after, left, atom) →
+      atom_read W.ExactLent s place budget scratch ≡ Err (stop, rest, why) →
       (why ≡ R.Eof) × (length s < atom_end s place) × (stop ≡ end_of s) × (after ≡ end_of s)
   cut_by {after} {stop} {left} {rest} {atom} {why} f e =
       let d = differ_cut (Ended s) (atom_differ s place budget scratch) (λ like. false≢true cc) in
-      let ended = d.0.1 in
-      (cc, d.1, cc, filled_end after left atom f d.1)
+      let ended = err_three (sym e ∙ d.0.1) in
+      (ended.2, d.1, ended.0, filled_end after left atom f d.1)
 
   -- read exactly: it ends within the source
   exact_whole : (after : Place) (left : Budget) (atom : Atom) →
-      atom_read W.ExactLent s place budget scratch ≡ A.Read after left atom → atom_end s place ≤ length s
+      atom_read W.ExactLent s place budget scratch ≡ Ok (after, left, atom) → atom_end s place ≤ length s
   exact_whole after left atom e =
       let row = Demand1.by_the_table W.ExactLent s place budget scratch in
       let found = Demand1.good_row row (ap (λ (a : AtomAnswer). (told_atom a).number) e) in
@@ -144,7 +144,7 @@ module _ (s : List ℕ) (place : ℕ) (budget : Budget) (scratch : List ℕ) whe
       can_end_lem false e = false≢true (sym e)
 
   refuses_by : {after : Place} {left : Budget} {atom : Atom} →
-      atom_read W.Filled s place budget scratch ≡ A.Read after left atom → length s < atom_end s place →
+      atom_read W.Filled s place budget scratch ≡ Ok (after, left, atom) → length s < atom_end s place →
       Differ (Ended s) (length s) (atom_end s place) (atom_read W.ExactLent s place budget scratch)
       (atom_read W.Filled s place budget scratch) →
       Ended s (atom_read W.ExactLent s place budget scratch)
@@ -168,24 +168,24 @@ module _ (s : List ℕ) (place : ℕ) where
     cut = λ e.
         let f = header_filled s place in
         let d = differ_cut _ (header_differ s place) (λ like. false≢true cc) in
-        let ended = d.0 in
-        (cc, d.1, cc);
+        let ended = err_two (sym e ∙ d.0) in
+        (ended.1, d.1, ended.0);
   }
 
   version_end : (after : Place) (version : ℕ) → length s < signature_end s place →
-      version_read W.Filled s place ≡ VA.Read after version → after ≡ end_of s
+      version_read W.Filled s place ≡ Ok (after, version) → after ≡ end_of s
   unfolding version_from
   version_end after version past e =
       let word = big_endian (onward s place) in
       let filled =
-      up_to_left (length s) (signature_end s place) (λ p. judged word (record { 0 = p })) (VA.Refused (end_of s) R.Eof)
+      up_to_left (length s) (signature_end s place) (λ p. judged word (record { 0 = p })) (Err (end_of s, R.Eof))
       in
       let at : place_in (length s) (signature_end s place) ≡ length s = past_end (length s) _ (omega arith) in
       taken (every_bit 32 signature word) (end_of s) (word % 256) (rw at at (sym filled ∙ e))
     where
       taken : (t : Bool) (p : Place) (low : ℕ) →
-          pick t (VA.Read p low) (VA.Refused p R.IncompatibleVersion) ≡ VA.Read after version → after ≡ p
-      taken true p low f = cc
+          pick {X = VersionAnswer} t (Ok (p, low)) (Err (p, R.IncompatibleVersion)) ≡ Ok (after, version) → after ≡ p
+      taken true p low f = sym (ok_two f).0
       taken false p low f = absurd (false≢true cc)
 
   pub signature_changes : SignatureChanges s place
@@ -193,7 +193,7 @@ module _ (s : List ℕ) (place : ℕ) where
     reads = λ e. differ_reads _ (version_differ s place) _ (λ ended. false≢true cc) e;
     cut = λ {after} {stop} {version} {why} f e.
         let d = differ_cut _ (version_differ s place) (λ like. false≢true cc) in
-        let ended = d.0 in
-        (cc, d.1, cc, version_end after version d.1 f);
+        let ended = err_two (sym e ∙ d.0) in
+        (ended.1, d.1, ended.0, version_end after version d.1 f);
     still = still_by _ (version_differ s place);
   }

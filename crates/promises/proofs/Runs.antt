@@ -10,9 +10,9 @@ use lib.IntN.{pos}
 use lib.ListN.{length, drop, length-append}
 use lib.Seq.{drop-append_seam}
 use borrow.Author.Tests.{ltb-true, ltb-false}
+use Rattle.types.specs.Answers.{Ran}
 use Rattle.types.specs.declared.Way.TheVariants as W
 use Rattle.types.specs.declared.Refusal.{Refusal}
-use Rattle.types.specs.declared.Ran.{Ran}
 use Rattle.atom.specs.Atoms.{atom_read}
 use Rattle.dictionary.specs.Runs.{run_all}
 use Rattle.dictionary.specs.Wholes.{Atoms, total, price, last_places}

@@ -1,6 +1,7 @@
 -- Where an atom stands that was read, and that the places of a chain of reads rise or stay level. It rests on the
 -- definition of one atom, kind by kind, on `atom.Forward`, that the place never falls and never passes the end, and on
 -- `atom.Placed`.
+use Rattle.std.specs.Prelude.{Result, Ok, Err}
 use mathlib.Core.Path.{◌≡◌, refl, ◌∙◌, sym, ap, subst}
 use mathlib.Core.Bool.{Bool, true, false, false≢true}
 use mathlib.Core.List.{List, [], ◌∷◌}
@@ -10,6 +11,7 @@ use lib.Dec.{ltb, leb}
 use lib.ListN.{length, take, drop, length-drop}
 use lib.Seq.{take_all, length-take-le}
 use borrow.Author.Tests.{ltb-false, leb-true, leb-false}
+use Rattle.types.specs.Answers.{AtomAnswer, HeaderAnswer}
 use Rattle.types.specs.Choice.{pick}
 use Rattle.types.specs.Ways.{exact}
 use Rattle.types.specs.Counters.{place_in}
@@ -26,12 +28,6 @@ use Rattle.types.specs.declared.Nucleus.{Nucleus}
 use Rattle.types.specs.declared.Nucleus.TheVariants as N
 use Rattle.types.specs.declared.Refusal.{Refusal}
 use Rattle.types.specs.declared.Refusal.TheVariants as R
-use Rattle.types.specs.declared.HeaderAnswer.{HeaderAnswer}
-use Rattle.types.specs.declared.HeaderAnswer.TheVariants as H
-use Rattle.types.specs.declared.BudgetAnswer.{BudgetAnswer}
-use Rattle.types.specs.declared.BudgetAnswer.TheVariants as BA
-use Rattle.types.specs.declared.AtomAnswer.{AtomAnswer}
-use Rattle.types.specs.declared.AtomAnswer.TheVariants as A
 use Rattle.header.specs.Header.{header_read}
 use Rattle.header.proofs.Places.{header_place, header_place_lem}
 use Rattle.little.specs.Le.{from_le, number_at}
@@ -68,8 +64,8 @@ pub record Carried (way : Way) (s : List ℕ) (first next : Place) (kind : Kind)
     pub holds : atom.nucleus ≡ held_by way kind arg next.0 (between s next.0 after.0)
 
 abbrev Carries : Way → List ℕ → Place → Place → Kind → ℕ → AtomAnswer → Type 0
-Carries way s first next kind arg (A.Read after rest atom) = Carried way s first next kind arg after atom
-Carries way s first next kind arg (A.Refused after rest r) = Unit {0}
+Carries way s first next kind arg (Ok (after, rest, atom)) = Carried way s first next kind arg after atom
+Carries way s first next kind arg (Err (after, rest, r)) = Unit {0}
 
 -- the bytes of a number, all there or up to the end
 bytes_there : (s : List ℕ) (at n : ℕ) → take n (drop at s) ≡ between s at (at + n)
@@ -107,7 +103,7 @@ module _ (way : Way) (s : List ℕ) (arg : ℕ) (first next : Place) (scratch : 
             Carries way s first next n.kind arg
             (pick t (atom_taken n.kind arg first next rest (record { 0 = next.0 + count })
             (n.nucleus count (from_le (take count (drop next.0 s)))))
-            (pick e (A.Refused (record { 0 = length s }) rest R.Eof)
+            (pick e (Err (record { 0 = length s }, rest, R.Eof))
             (atom_taken n.kind arg first next rest (record { 0 = length s })
             (n.nucleus count (from_le (take count (drop next.0 s)))))))
         by count c true e f = record {
@@ -172,13 +168,13 @@ module _ (way : Way) (s : List ℕ) (arg : ℕ) (first next : Place) (scratch : 
     taken_carries K.Symbol = header_carries K.Symbol N.None refl (λ bytes. refl)
     taken_carries K.Bytes = string_carries (outcome way s next.0 arg scratch)
 
-  charged_carries : (kind : Kind) (budget : Budget) (paid : BudgetAnswer) (k : Bool) (r : Refusal) →
+  charged_carries : (kind : Kind) (budget : Budget) (paid : Result Budget Refusal) (k : Bool) (r : Refusal) →
       Carries way s first next kind arg
       (charged next budget paid
-      (λ rest. pick k (body_taken way s kind arg first next scratch rest) (A.Refused next rest r)))
-  charged_carries kind budget (BA.Left rest) true r = taken_carries rest kind
-  charged_carries kind budget (BA.Left rest) false r = tt
-  charged_carries kind budget (BA.Refused q) k r = tt
+      (λ rest. pick k (body_taken way s kind arg first next scratch rest) (Err (next, rest, r))))
+  charged_carries kind budget (Ok rest) true r = taken_carries rest kind
+  charged_carries kind budget (Ok rest) false r = tt
+  charged_carries kind budget (Err q) k r = tt
 
   after_carries : (kind : Kind) (budget : Budget) →
       Carries way s first next kind arg (atom_after way s kind arg first next budget scratch)
@@ -189,9 +185,9 @@ module _ (way : Way) (s : List ℕ) (arg : ℕ) (first next : Place) (scratch : 
 -- EVERY ATOM THAT IS READ STANDS WHERE IT SAYS, under every way
 module _ (way : Way) (s : List ℕ) (place : ℕ) (budget : Budget) (scratch : List ℕ) (after : Place) (left : Budget)
     (atom : Atom) where
-  carried : (next : Place) (kind : Kind) (arg : ℕ) → header_read way s place ≡ H.Read next kind arg →
+  carried : (next : Place) (kind : Kind) (arg : ℕ) → header_read way s place ≡ Ok (next, kind, arg) →
       place_in (length s) place ≤ next.0 → next.0 ≤ after.0 → after.0 ≤ length s →
-      Placed (first_place s place) (A.Read after left atom) →
+      Placed (first_place s place) (Ok (after, left, atom)) →
       Carried way s (first_place s place) next kind arg after atom → Stands way s place after atom
   carried next kind arg header from on to p c =
       let k = c.its_kind in
@@ -215,16 +211,16 @@ module _ (way : Way) (s : List ℕ) (place : ℕ) (budget : Budget) (scratch : L
       }
 
   by_header : (h : HeaderAnswer) → header_read way s place ≡ h → place_in (length s) place ≤ header_place h →
-      header_place h ≤ length s → after.0 ≤ length s → Placed (first_place s place) (A.Read after left atom) →
-      atom_from way s (first_place s place) budget scratch h ≡ A.Read after left atom → Stands way s place after atom
-  by_header (H.Read next kind arg) header from within to p e =
+      header_place h ≤ length s → after.0 ≤ length s → Placed (first_place s place) (Ok (after, left, atom)) →
+      atom_from way s (first_place s place) budget scratch h ≡ Ok (after, left, atom) → Stands way s place after atom
+  by_header (Ok (next, kind, arg)) header from within to p e =
       let on = (after_on way s arg (first_place s place) next budget scratch within kind).not_back in
       carried next kind arg header from (subst (λ (a : AtomAnswer). next.0 ≤ atom_place a) e on) to p
       (subst (Carries way s (first_place s place) next kind arg) e
       (after_carries way s arg (first_place s place) next scratch within kind budget))
-  by_header (H.Refused end r) header from within to p e = absurd (false≢true cc)
+  by_header (Err (end, r)) header from within to p e = absurd (false≢true cc)
 
-  pub stands : atom_read way s place budget scratch ≡ A.Read after left atom → Stands way s place after atom
+  pub stands : atom_read way s place budget scratch ≡ Ok (after, left, atom) → Stands way s place after atom
   unfolding atom_read
   stands e =
       let w = header_place_lem way s (place_in (length s) place) (place_within (length s) place) in
@@ -245,7 +241,7 @@ body_from {s = s} {place = place} (reads {after = after} {left} {atom} way budge
 
 -- an atom that was read, and the one that was read from the place after it
 module _ {Allowed : Way → Type 0} (way : Way) (s : List ℕ) (place : ℕ) (budget : Budget) (scratch : List ℕ)
-    (after : Place) (left : Budget) (atom : Atom) (e : atom_read way s place budget scratch ≡ A.Read after left atom)
+    (after : Place) (left : Budget) (atom : Atom) (e : atom_read way s place budget scratch ≡ Ok (after, left, atom))
     (b : Places) (later : List Places) (c : Chain Allowed s after.0 (b ∷ later)) where
   where_it_is : Stands way s place after atom
   where_it_is = stands way s place budget scratch after left atom e

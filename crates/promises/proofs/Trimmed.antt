@@ -1,5 +1,6 @@
 -- A file whose trailing zeros were trimmed, read filled: `promises.Migration.TrimmedReads`. It rests on the laws of
 -- zeros after a source, `header.Zeros` and `little.Zeros`, and goes over the definition of one atom, kind by kind.
+use Rattle.std.specs.Prelude.{Result, Ok, Err}
 use mathlib.Core.Path.{◌≡◌, refl, ◌∙◌, sym, ap}
 use mathlib.Core.Bool.{Bool, true, false, false≢true}
 use mathlib.Core.List.{List, [], ◌∷◌, ◌++◌}
@@ -8,6 +9,8 @@ use native.Mathlib.Omega.{arith}
 use lib.Dec.{ltb, leb}
 use lib.ListN.{length, drop, replicate, drop_of_length-le, length-append}
 use borrow.Author.Tests.{ltb-true, ltb-false}
+use Rattle.types.proofs.Answers.{ok_two, ok_three}
+use Rattle.types.specs.Answers.{AtomAnswer, HeaderAnswer, VersionAnswer}
 use Rattle.types.specs.Choice.{pick}
 use Rattle.types.specs.Counters.{place_in}
 use Rattle.types.specs.Forms.{known, body_length, charge_of, is_string, unknown}
@@ -21,13 +24,6 @@ use Rattle.types.specs.declared.Nucleus.TheVariants as N
 use Rattle.types.specs.declared.Atom.{Atom}
 use Rattle.types.specs.declared.Refusal.{Refusal}
 use Rattle.types.specs.declared.Refusal.TheVariants as R
-use Rattle.types.specs.declared.HeaderAnswer.{HeaderAnswer}
-use Rattle.types.specs.declared.HeaderAnswer.TheVariants as H
-use Rattle.types.specs.declared.VersionAnswer.TheVariants as VA
-use Rattle.types.specs.declared.BudgetAnswer.{BudgetAnswer}
-use Rattle.types.specs.declared.BudgetAnswer.TheVariants as BA
-use Rattle.types.specs.declared.AtomAnswer.{AtomAnswer}
-use Rattle.types.specs.declared.AtomAnswer.TheVariants as A
 use Rattle.types.proofs.Counters.{place_same}
 use Rattle.header.specs.Header.{header_read, header_kind, header_argument, header_length}
 use Rattle.header.specs.Signature.{version_read, version_from, judged, big_endian, every_bit, signature}
@@ -64,12 +60,12 @@ bits_left count s place false h = refl
 
 -- what is left of an answer
 abbrev trimmed : List ℕ → AtomAnswer → AtomAnswer
-trimmed s (A.Read after left atom) = A.Read (left_of s after) left (left_atom s atom)
-trimmed s (A.Refused stop left why) = A.Refused stop left why
+trimmed s (Ok (after, left, atom)) = Ok (left_of s after, left, left_atom s atom)
+trimmed s (Err (stop, left, why)) = Err (stop, left, why)
 
 -- what is read is whole
 read_whole : (t : Bool) (all : AtomAnswer) (end : Place) (rest : Budget) (p : Place) (b : Budget) (x : Atom) →
-    pick t all (A.Refused end rest R.Eof) ≡ A.Read p b x → all ≡ A.Read p b x
+    pick t all (Err (end, rest, R.Eof)) ≡ Ok (p, b, x) → all ≡ Ok (p, b, x)
 read_whole true all end rest p b x e = e
 read_whole false all end rest p b x e = absurd (false≢true cc)
 
@@ -108,15 +104,15 @@ module _ (s : List ℕ) (zeros : ℕ) (scratch : List ℕ) (arg : ℕ) (first ne
       let same_bits : bits ≡ all =
       bits_left count s next.0 (ltb (length s) next.0) refl ∙ sym (number_zeros count s zeros next.0)
       in
-      up_to_left (length s) (from_end + count) (λ e. built n first e bits) (A.Refused (record { 0 = length s }) rest R.Eof)
+      up_to_left (length s) (from_end + count) (λ e. built n first e bits) (Err (record { 0 = length s }, rest, R.Eof))
       ∙ ap (λ (e : ℕ). built n first e bits) (place_again (length s) next.0 count)
       ∙ ap (λ (b : ℕ). built n first end b) same_bits
       ∙ ap (λ (f : Place). built n f end all) same_first
 
   number_trimmed : (n : NumberForm) (all left : AtomAnswer) (p : Place) (b : Budget) (x : Atom) →
       all ≡ number_taken n W.ExactLent (s ++ replicate zeros 0) arg first next rest →
-      left ≡ number_taken n W.Filled s arg first (left_of s next) rest → all ≡ A.Read p b x →
-      left ≡ trimmed s (A.Read p b x)
+      left ≡ number_taken n W.Filled s arg first (left_of s next) rest → all ≡ Ok (p, b, x) →
+      left ≡ trimmed s (Ok (p, b, x))
   number_trimmed n all left p b x f g e =
       g ∙ number_left n
       ∙ ap (trimmed s) (read_whole (leb (next.0 + body_length n.kind arg) (length (s ++ replicate zeros 0))) _ _ _ p b x
@@ -124,15 +120,15 @@ module _ (s : List ℕ) (zeros : ℕ) (scratch : List ℕ) (arg : ℕ) (first ne
 
   -- a string that is whole in what is left
   string_trimmed : (p : Place) (b : Budget) (x : Atom) → next.0 ≤ length (s ++ replicate zeros 0) →
-      bytes_taken W.ExactLent (s ++ replicate zeros 0) arg first next scratch rest ≡ A.Read p b x →
+      bytes_taken W.ExactLent (s ++ replicate zeros 0) arg first next scratch rest ≡ Ok (p, b, x) →
       (is_string x.kind ≡ true → p.0 ≤ length s) →
-      bytes_taken W.Filled s arg first (left_of s next) scratch rest ≡ trimmed s (A.Read p b x)
+      bytes_taken W.Filled s arg first (left_of s next) scratch rest ≡ trimmed s (Ok (p, b, x))
   string_trimmed p b x there e fits =
       by (ltb (length (s ++ replicate zeros 0)) (start_of (s ++ replicate zeros 0) next.0 + arg)) refl
     where
       by : (t : Bool) →
           ltb (length (s ++ replicate zeros 0)) (start_of (s ++ replicate zeros 0) next.0 + arg) ≡ t →
-          bytes_taken W.Filled s arg first (left_of s next) scratch rest ≡ trimmed s (A.Read p b x)
+          bytes_taken W.Filled s arg first (left_of s next) scratch rest ≡ trimmed s (Ok (p, b, x))
       by true h =
           let out = ltb-true (length (s ++ replicate zeros 0)) _ h in
           let refused = lent_eof (s ++ replicate zeros 0) next.0 arg out in
@@ -142,9 +138,9 @@ module _ (s : List ℕ) (zeros : ℕ) (scratch : List ℕ) (arg : ℕ) (first ne
           let read = lent_read (s ++ replicate zeros 0) next.0 arg in_all in
           let at = start_same (s ++ replicate zeros 0) next.0 there in
           let found : atom_taken K.Bytes arg first next rest (record { 0 = next.0 + arg })
-          (N.Bytes (lent_mark next.0 arg)) ≡ A.Read p b x = cc (read, at, e)
+          (N.Bytes (lent_mark next.0 arg)) ≡ Ok (p, b, x) = cc (read, at, e)
           in
-          let string : x.kind ≡ K.Bytes = cc found in
+          let string : x.kind ≡ K.Bytes = ap (λ (y : Atom). y.kind) (sym (ok_three found).2) in
           let short : next.0 + arg ≡ p.0 = ap atom_place found in
           let fit : p.0 ≤ length s = fits (ap is_string string) in
           let here : start_of s next.0 ≡ next.0 = start_same s next.0 (omega arith) in
@@ -163,8 +159,8 @@ module _ (s : List ℕ) (zeros : ℕ) (scratch : List ℕ) (arg : ℕ) (first ne
   -- by its kind
   body_trimmed : (kind : Kind) (p : Place) (b : Budget) (x : Atom) → next.0 ≤ length (s ++ replicate zeros 0) →
       (is_string x.kind ≡ true → p.0 ≤ length s) →
-      body_taken W.ExactLent (s ++ replicate zeros 0) kind arg first next scratch rest ≡ A.Read p b x →
-      body_taken W.Filled s kind arg first (left_of s next) scratch rest ≡ trimmed s (A.Read p b x)
+      body_taken W.ExactLent (s ++ replicate zeros 0) kind arg first next scratch rest ≡ Ok (p, b, x) →
+      body_taken W.Filled s kind arg first (left_of s next) scratch rest ≡ trimmed s (Ok (p, b, x))
   body_trimmed K.Special p b x there fits e = header_left K.Special _ ∙ ap (trimmed s) e
   body_trimmed K.Int p b x there fits e =
       number_trimmed (integers K.Int) _ _ p b x (integer_taken_lem W.ExactLent _ arg first next K.Int rest)
@@ -181,14 +177,14 @@ module _ (s : List ℕ) (zeros : ℕ) (scratch : List ℕ) (arg : ℕ) (first ne
   body_trimmed K.Bytes p b x there fits e = string_trimmed p b x there e fits
 
 -- the charge, and whether it is known, are the same
-judged_trimmed : (next other : Place) (budget : Budget) (a : BudgetAnswer) (k : Bool) (r : Refusal)
+judged_trimmed : (next other : Place) (budget : Budget) (a : Result Budget Refusal) (k : Bool) (r : Refusal)
     (f g : Budget → AtomAnswer) (p : Place) (b : Budget) (x : Atom) (answer : AtomAnswer) →
-    ((rest : Budget) → f rest ≡ A.Read p b x → g rest ≡ answer) →
-    charged next budget a (λ rest. pick k (f rest) (A.Refused next rest r)) ≡ A.Read p b x →
-    charged other budget a (λ rest. pick k (g rest) (A.Refused other rest r)) ≡ answer
-judged_trimmed next other budget (BA.Left rest) true r f g p b x answer h e = h rest e
-judged_trimmed next other budget (BA.Left rest) false r f g p b x answer h e = absurd (false≢true cc)
-judged_trimmed next other budget (BA.Refused q) k r f g p b x answer h e = absurd (false≢true cc)
+    ((rest : Budget) → f rest ≡ Ok (p, b, x) → g rest ≡ answer) →
+    charged next budget a (λ rest. pick k (f rest) (Err (next, rest, r))) ≡ Ok (p, b, x) →
+    charged other budget a (λ rest. pick k (g rest) (Err (other, rest, r))) ≡ answer
+judged_trimmed next other budget (Ok rest) true r f g p b x answer h e = h rest e
+judged_trimmed next other budget (Ok rest) false r f g p b x answer h e = absurd (false≢true cc)
+judged_trimmed next other budget (Err q) k r f g p b x answer h e = absurd (false≢true cc)
 
 -- THE HEADER before it, and so the atom
 module _ (s : List ℕ) (zeros place : ℕ) (within : place ≤ length s) where
@@ -205,8 +201,8 @@ module _ (s : List ℕ) (zeros place : ℕ) (within : place ≤ length s) where
   onward_left = rw (start_all, start_left) (onward_zeros s zeros place within)
 
   header_left_of : (next : Place) (kind : Kind) (arg : ℕ) →
-      header_read W.ExactLent (s ++ replicate zeros 0) place ≡ H.Read next kind arg →
-      header_read W.Filled s place ≡ H.Read (left_of s next) kind arg
+      header_read W.ExactLent (s ++ replicate zeros 0) place ≡ Ok (next, kind, arg) →
+      header_read W.Filled s place ≡ Ok (left_of s next, kind, arg)
   header_left_of next kind arg e =
       let h = header_exact (s ++ replicate zeros 0) place next kind arg e in
       let l = onward s place in
@@ -223,21 +219,21 @@ module _ (s : List ℕ) (zeros place : ℕ) (within : place ≤ length s) where
     by_header : (h : HeaderAnswer) → header_read W.ExactLent (s ++ replicate zeros 0) place ≡ h →
         header_place h ≤ length (s ++ replicate zeros 0) →
         atom_from W.ExactLent (s ++ replicate zeros 0) (record { 0 = place }) budget scratch h
-        ≡ A.Read after left atom →
+        ≡ Ok (after, left, atom) →
         atom_from W.Filled s (record { 0 = place }) budget scratch (header_read W.Filled s place)
-        ≡ trimmed s (A.Read after left atom)
+        ≡ trimmed s (Ok (after, left, atom))
     unfolding Atoms.judged
-    by_header (H.Read next kind arg) h there e =
+    by_header (Ok (next, kind, arg)) h there e =
         ap (atom_from W.Filled s (record { 0 = place }) budget scratch) (header_left_of next kind arg h)
         ∙ judged_trimmed next (left_of s next) budget (budget_after budget (charge_of kind arg)) (known kind arg)
         (unknown kind arg)
         (body_taken W.ExactLent (s ++ replicate zeros 0) kind arg (record { 0 = place }) next scratch)
         (body_taken W.Filled s kind arg (record { 0 = place }) (left_of s next) scratch) after left atom _
         (λ rest. body_trimmed s zeros scratch arg (record { 0 = place }) next within rest kind after left atom there fits) e
-    by_header (H.Refused stop why) h there e = absurd (false≢true cc)
+    by_header (Err (stop, why)) h there e = absurd (false≢true cc)
 
-    atom_trimmed : atom_read W.ExactLent (s ++ replicate zeros 0) place budget scratch ≡ A.Read after left atom →
-        atom_read W.Filled s place budget scratch ≡ trimmed s (A.Read after left atom)
+    atom_trimmed : atom_read W.ExactLent (s ++ replicate zeros 0) place budget scratch ≡ Ok (after, left, atom) →
+        atom_read W.Filled s place budget scratch ≡ trimmed s (Ok (after, left, atom))
     unfolding atom_read
     atom_trimmed e =
         let at_all = start_within (s ++ replicate zeros 0) place in
@@ -256,28 +252,30 @@ module _ (s : List ℕ) (zeros place : ℕ) (within : place ≤ length s) where
       rw (onward_zeros s zeros place within, byte_zeros l zeros 0, byte_zeros l zeros 1, byte_zeros l zeros 2, byte_zeros l zeros 3) refl
 
   judged_left : (t : Bool) (end : ℕ) (word : ℕ) (after : Place) (version : ℕ) →
-      pick t (judged word (record { 0 = end })) (VA.Refused (record { 0 = length (s ++ replicate zeros 0) }) R.Eof)
-      ≡ VA.Read after version →
-      judged word (left_of s (record { 0 = end })) ≡ VA.Read (left_of s after) version
+      pick {X = VersionAnswer} t (judged word (record { 0 = end }))
+      (Err (record { 0 = length (s ++ replicate zeros 0) }, R.Eof))
+      ≡ Ok (after, version) →
+      judged word (left_of s (record { 0 = end })) ≡ Ok (left_of s after, version)
   judged_left false end word after version e = absurd (false≢true cc)
   judged_left true end word after version e = taken (every_bit 32 signature word) e
     where
       taken : (t : Bool) →
-          pick t (VA.Read (record { 0 = end }) (word % 256)) (VA.Refused (record { 0 = end }) R.IncompatibleVersion)
-          ≡ VA.Read after version →
-          pick t (VA.Read (left_of s (record { 0 = end })) (word % 256))
-          (VA.Refused (left_of s (record { 0 = end })) R.IncompatibleVersion) ≡ VA.Read (left_of s after) version
-      taken true f = cc
+          pick {X = VersionAnswer} t (Ok (record { 0 = end }, word % 256))
+          (Err (record { 0 = end }, R.IncompatibleVersion))
+          ≡ Ok (after, version) →
+          pick {X = VersionAnswer} t (Ok (left_of s (record { 0 = end }), word % 256))
+          (Err (left_of s (record { 0 = end }), R.IncompatibleVersion)) ≡ Ok (left_of s after, version)
+      taken true f = let parts = ok_two f in cc (parts.0, parts.1)
       taken false f = absurd (false≢true cc)
 
   signature_trimmed : (after : Place) (version : ℕ) →
-      version_read W.ExactLent (s ++ replicate zeros 0) place ≡ VA.Read after version →
-      version_read W.Filled s place ≡ VA.Read (left_of s after) version
+      version_read W.ExactLent (s ++ replicate zeros 0) place ≡ Ok (after, version) →
+      version_read W.Filled s place ≡ Ok (left_of s after, version)
   unfolding version_from
   signature_trimmed after version e =
       rw start_left
       (up_to_left (length s) (place + 4) (λ p. judged (big_endian (drop place s)) (record { 0 = p }))
-      (VA.Refused (record { 0 = length s }) R.Eof)
+      (Err (record { 0 = length s }, R.Eof))
       ∙ judged_left (leb (place + 4) (length (s ++ replicate zeros 0))) (place + 4) (big_endian (drop place s)) after
       version (rw (start_all, word_left) at e))
 

@@ -14,8 +14,8 @@ use Rattle.types.specs.contracts.Refusal.unsupported as refusal-unsupported
 use Rattle.types.proofs.Refusal.unsupported.Reads as refusal-unsupported-reads
 use Rattle.types.specs.contracts.Special.code as special-code
 use Rattle.types.proofs.Special.code.Reads as special-code-reads
-use Rattle.types.specs.contracts.Special.try_from as special-try-from
-use Rattle.types.proofs.Special.try_from.Reads as special-try-from-reads
+use Rattle.types.specs.contracts.SpecialTryFromU64.try_from as special-try-from
+use Rattle.types.proofs.SpecialTryFromU64.try_from.Reads as special-try-from-reads
 use Rattle.types.specs.contracts.Way.is_exact as way-is-exact
 use Rattle.types.proofs.Way.is_exact.Reads as way-is-exact-reads
 use Rattle.types.specs.contracts.Way.unnamed as way-unnamed

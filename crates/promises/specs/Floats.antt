@@ -1,6 +1,6 @@
 -- FLOATS ARE THOSE OF IEEE 754: its sign and magnitude, its infinities and NaNs are `binary.Formats.meaning`, and the
 -- entries answer by it.
-use Rattle.std.specs.Prelude.{ℕ, ◌+◌, ◌-◌, ◌*◌, ◌%◌, ◌^◌, ◌≡◌, Bool, true, List, [], ◌∷◌, pos, length}
+use Rattle.std.specs.Prelude.{ℕ, ◌+◌, ◌-◌, ◌*◌, ◌%◌, ◌^◌, ◌≡◌, Bool, true, List, [], ◌∷◌, pos, length, Ok}
 use Rattle.std.specs.Float.{Format}
 use Rattle.std.specs.Float.Ieee.{of_bits}
 use Rattle.types.specs.Counters.{place_in}
@@ -10,13 +10,12 @@ use Rattle.types.specs.declared.Way.{Way}
 use Rattle.types.specs.declared.Kind.TheVariants as K
 use Rattle.types.specs.declared.Place.{Place}
 use Rattle.types.specs.declared.Budget.{Budget}
-use Rattle.types.specs.declared.HeaderAnswer.TheVariants as H
 use Rattle.types.specs.declared.Integer.{Integer}
 use Rattle.header.specs.Header.{header_read}
 use Rattle.reader.specs.Strings.{start_of}
 use Rattle.little.specs.Le.{number_at}
 use Rattle.binary.specs.Formats.{Layout, half, single, double, nan, meaning, NotNan, SameValue}
-use Rattle.binary.specs.Conversions.{widened, narrowed, answer16, answer32}
+use Rattle.binary.specs.Conversions.{widened, narrowed}
 use Rattle.binary.specs.Floats.{float_meaning, plain, layout_of}
 use Rattle.float.specs.Floats.{float_read}
 use Rattle.atom.specs.Atoms.{atom_read}
@@ -50,7 +49,7 @@ pub record Ieee754 : Type 0 where
       ∷ float_held count (number_at count s (start_of s place)))
   pub atom_read_row : (way : Way) (s : List ℕ) (place : ℕ) (budget : Budget) (scratch : List ℕ)
       (next : Place) (arg : ℕ) →
-      header_read way s place ≡ H.Read next K.Float arg →
+      header_read way s place ≡ Ok (next, K.Float, arg) →
       Good way s budget scratch next K.Float arg →
       told_atom (atom_read way s place budget scratch)
       ≡ told 0
@@ -74,7 +73,7 @@ pub record Ieee754 : Type 0 where
       meaning single bits ≡ nan s t →
       meaning double (widened single double bits) ≡ nan s (2 ^ 51 + t * 2 ^ 29 % 2 ^ 51)
   -- narrowing is exact
-  pub narrows_single : NarrowingRows single half (λ bits. told_narrowed16 (answer16 (narrowed single half bits)))
-  pub narrows_double : NarrowingRows double single (λ bits. told_narrowed32 (answer32 (narrowed double single bits)))
+  pub narrows_single : NarrowingRows single half (λ bits. told_narrowed16 (narrowed single half bits))
+  pub narrows_double : NarrowingRows double single (λ bits. told_narrowed32 (narrowed double single bits))
   -- an integer as a float is that number, in units of 2^-1074
   pub whole : (x : Integer) → WholeFloatRows x

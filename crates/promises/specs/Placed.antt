@@ -1,7 +1,7 @@
 -- What is said of the places of the atoms that are read. Document 02, K1: "Each atom read is to carry its first place,
 -- the place where its body starts and the place after it." "Reading each atom from the place after the one before, all
 -- three rise or stay level."
-use Rattle.std.specs.Prelude.{ℕ, ◌+◌, ◌-◌, ◌≤◌, ◌<◌, ◌≡◌, true, List, [], ◌∷◌, length, take, drop}
+use Rattle.std.specs.Prelude.{ℕ, ◌+◌, ◌-◌, ◌≤◌, ◌<◌, ◌≡◌, true, List, [], ◌∷◌, length, take, drop, Ok}
 use Rattle.types.specs.Choice.{pick}
 use Rattle.types.specs.Ways.{exact}
 use Rattle.types.specs.Counters.{place_in, places_of}
@@ -17,8 +17,6 @@ use Rattle.types.specs.declared.Mark.{Mark}
 use Rattle.types.specs.declared.Nucleus.{Nucleus}
 use Rattle.types.specs.declared.Nucleus.TheVariants as N
 use Rattle.types.specs.declared.Atom.{Atom}
-use Rattle.types.specs.declared.HeaderAnswer.TheVariants as H
-use Rattle.types.specs.declared.AtomAnswer.TheVariants as A
 use Rattle.header.specs.Header.{header_read}
 use Rattle.reader.specs.Strings.{string_mark}
 use Rattle.little.specs.Le.{from_le}
@@ -47,7 +45,7 @@ pub record Stands (way : Way) (s : List ℕ) (place : ℕ) (after : Place) (atom
   -- "its first place": the place given, or the end if that is past it
   pub at_first : atom.places.first.0 ≡ place_in (length s) place
   -- "the place where its body starts": past the header, which says its kind and its argument
-  pub at_body : header_read way s place ≡ H.Read atom.places.body atom.kind atom.arg
+  pub at_body : header_read way s place ≡ Ok (atom.places.body, atom.kind, atom.arg)
   -- "and the place after it": the answer's
   pub at_after : atom.places.after ≡ after
   -- in this order, and within the source
@@ -68,7 +66,7 @@ pub data Chain (Allowed : Way → Type 0) (s : List ℕ) : ℕ → List Places �
   ends : {place : ℕ} → Chain Allowed s place []
   reads : {place : ℕ} {after : Place} {left : Budget} {atom : Atom} {later : List Places} (way : Way)
       (budget : Budget) (scratch : List ℕ) → Allowed way →
-      atom_read way s place budget scratch ≡ A.Read after left atom →
+      atom_read way s place budget scratch ≡ Ok (after, left, atom) →
       Chain Allowed s after.0 later → Chain Allowed s place (atom.places ∷ later)
 
 abbrev pub AnyWay : Way → Type 0

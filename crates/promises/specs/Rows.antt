@@ -4,7 +4,8 @@
 -- before it did not find, so that at most one fits. A row speaks of the way, the source, the given place, the budget
 -- and the scratch before, of what the header read as, of the answer as it is told, and of the scratch after. Past the
 -- header is the place that the header left. The places of an atom that was read are those of document 02, K1.
-use Rattle.std.specs.Prelude.{ℕ, ◌+◌, ◌-◌, ◌≤◌, ◌<◌, ◌≡◌, ◌⊎◌, Bool, true, false, List, [], ◌∷◌, map, pos, length}
+use Rattle.std.specs.Prelude.{ℕ, ◌+◌, ◌-◌, ◌≤◌, ◌<◌, ◌≡◌, ◌⊎◌, Bool, true, false, List, [], ◌∷◌, map, pos, length, Ok, Err}
+use Rattle.types.specs.Answers.{HeaderAnswer}
 use Rattle.types.specs.Choice.{pick}
 use Rattle.types.specs.Ways.{exact}
 use Rattle.types.specs.Counters.{place_in, places_of}
@@ -17,8 +18,6 @@ use Rattle.types.specs.declared.Place.{Place}
 use Rattle.types.specs.declared.Places.{Places}
 use Rattle.types.specs.declared.Budget.{Budget}
 use Rattle.types.specs.declared.Refusal.TheVariants as R
-use Rattle.types.specs.declared.HeaderAnswer.{HeaderAnswer}
-use Rattle.types.specs.declared.HeaderAnswer.TheVariants as H
 use Rattle.reader.specs.Strings.{scratch_needed}
 use Rattle.promises.specs.Told.{Told, told, places_told}
 use Rattle.promises.specs.Held.{held, copied}
@@ -83,21 +82,21 @@ pub data Row (way : Way) (s : List ℕ) (place : ℕ) (budget : Budget) (scratch
     -- "4 Eof: input ends: everything under exact reading: end of slice"; no body was being read
     four_in_header :
         exact way ≡ true →
-        Row way s place budget scratch (H.Refused (end_of s) R.Eof) (refusal 4 (end_of s) budget []) scratch
+        Row way s place budget scratch (Err (end_of s, R.Eof)) (refusal 4 (end_of s) budget []) scratch
     -- "3 UnknownSpecial(value): special argument 7 or more: past header; unchanged"
     three : {next : Place} {arg : ℕ} →
         7 ≤ arg →
-        Row way s place budget scratch (H.Read next K.Special arg) (refusal 3 next budget (arg ∷ [])) scratch
+        Row way s place budget scratch (Ok (next, K.Special, arg)) (refusal 3 next budget (arg ∷ [])) scratch
     -- "5 TooManyBytesRead: charge exceeds budget: past header; unchanged"
     five : {next : Place} {kind : Kind} {arg : ℕ} →
         budget.0 < charge_of kind arg →
-        Row way s place budget scratch (H.Read next kind arg) (refusal 5 next budget []) scratch
+        Row way s place budget scratch (Ok (next, kind, arg)) (refusal 5 next budget []) scratch
     -- "6 UnsupportedByteCount(kind, count): number width not allowed: past header; charged"
     six : {next : Place} {kind : Kind} {arg : ℕ} →
         Number kind →
         charge_of kind arg ≤ budget.0 →
         known kind arg ≡ false →
-        Row way s place budget scratch (H.Read next kind arg)
+        Row way s place budget scratch (Ok (next, kind, arg))
         (refusal 6 next (less budget (charge_of kind arg)) (kind_code kind ∷ count_of arg ∷ [])) scratch
     -- "4 Eof: input ends: strings, and everything under exact reading: end of slice; charged if a body was being read"
     four_in_body : {next : Place} {kind : Kind} {arg : ℕ} →
@@ -105,16 +104,16 @@ pub data Row (way : Way) (s : List ℕ) (place : ℕ) (budget : Budget) (scratch
         known kind arg ≡ true →
         can_end way kind ≡ true →
         length s < next.0 + body_length kind arg →
-        Row way s place budget scratch (H.Read next kind arg)
+        Row way s place budget scratch (Ok (next, kind, arg))
         (refusal 4 (end_of s) (less budget (charge_of kind arg)) []) scratch
     -- "9 NoRoom: scratch shorter than the string: past header, charged"
     nine : {next : Place} {arg : ℕ} →
         arg ≤ budget.0 →
         next.0 + arg ≤ length s →
         length scratch < scratch_needed way arg →
-        Row way s place budget scratch (H.Read next K.Bytes arg) (refusal 9 next (less budget arg) []) scratch
+        Row way s place budget scratch (Ok (next, K.Bytes, arg)) (refusal 9 next (less budget arg) []) scratch
     -- no refusal: "Copying fills the first bytes" of the scratch "and the rest keep their value"
     read : {next : Place} {kind : Kind} {arg : ℕ} →
         Good way s budget scratch next kind arg →
-        Row way s place budget scratch (H.Read next kind arg) (taking way s place next budget kind arg)
+        Row way s place budget scratch (Ok (next, kind, arg)) (taking way s place next budget kind arg)
         (copied s next.0 (room_of way kind arg) scratch)

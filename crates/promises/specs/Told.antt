@@ -2,88 +2,35 @@
 -- paper's number and values for each of its cases. The promises use that definition." Number 0 says that the answer is
 -- no refusal. A float is told by its case: 0, its sign and its magnitude in units of 2^-1074; 1 and the sign of an
 -- infinity; 2 of the NaN.
-use Rattle.std.specs.Prelude.{ℕ, List, [], ◌∷◌, ◌++◌, map, ℤ, pos}
+use Rattle.std.specs.Prelude.{ℕ, List, [], ◌∷◌, ◌++◌, map, ℤ, pos, Result, Ok, Err, Option, Some, None}
 use Rattle.std.specs.Float.Ieee as Ieee
 use mir.Syntax.{Sign, signed, unsigned}
 use mir.Val.{bits}
+use Rattle.report.specs.Reports.{Report}
+use Rattle.types.specs.declared.Budget.{Budget}
+use Rattle.types.specs.declared.Wide.{Wide}
+use Rattle.types.specs.declared.Special.{Special}
+use Rattle.types.specs.declared.Kind.{Kind}
+use Rattle.types.specs.Answers.{AtomAnswer, BytesAnswer, Checked, FloatAnswer, HeaderAnswer, IntegerAnswer, Ran, RawAnswer, Skipped, VersionAnswer}
 use Rattle.types.specs.Choice.{pick}
 use Rattle.types.specs.Kinds.{kind_code, special_code}
 use Rattle.types.specs.Refusals.{refusal_number, refusal_data}
 use Rattle.types.specs.declared.Mark.{Mark}
 use Rattle.types.specs.declared.Places.{Places}
+use Rattle.types.specs.declared.Run.{Run}
 use Rattle.types.specs.declared.Integer.{Integer}
 use Rattle.types.specs.declared.Float.{Float}
 use Rattle.types.specs.declared.Float.TheVariants as F
 use Rattle.types.specs.declared.Nucleus.{Nucleus}
 use Rattle.types.specs.declared.Nucleus.TheVariants as N
-use Rattle.types.specs.declared.IntegerAnswer.{IntegerAnswer}
-use Rattle.types.specs.declared.IntegerAnswer.TheVariants as IA
-use Rattle.types.specs.declared.FloatAnswer.{FloatAnswer}
-use Rattle.types.specs.declared.FloatAnswer.TheVariants as FA
-use Rattle.types.specs.declared.AtomAnswer.{AtomAnswer}
-use Rattle.types.specs.declared.AtomAnswer.TheVariants as A
-use Rattle.types.specs.declared.BudgetAnswer.{BudgetAnswer}
-use Rattle.types.specs.declared.BudgetAnswer.TheVariants as GA
-use Rattle.types.specs.declared.AsI8.{AsI8}
-use Rattle.types.specs.declared.AsI8.TheVariants as I8
-use Rattle.types.specs.declared.AsI16.{AsI16}
-use Rattle.types.specs.declared.AsI16.TheVariants as I16
-use Rattle.types.specs.declared.AsI32.{AsI32}
-use Rattle.types.specs.declared.AsI32.TheVariants as I32
-use Rattle.types.specs.declared.AsI64.{AsI64}
-use Rattle.types.specs.declared.AsI64.TheVariants as I64
-use Rattle.types.specs.declared.AsU8.{AsU8}
-use Rattle.types.specs.declared.AsU8.TheVariants as U8
-use Rattle.types.specs.declared.AsU16.{AsU16}
-use Rattle.types.specs.declared.AsU16.TheVariants as U16
-use Rattle.types.specs.declared.AsU32.{AsU32}
-use Rattle.types.specs.declared.AsU32.TheVariants as U32
-use Rattle.types.specs.declared.AsU64.{AsU64}
-use Rattle.types.specs.declared.AsU64.TheVariants as U64
-use Rattle.types.specs.declared.AsWide.{AsWide}
-use Rattle.types.specs.declared.AsWide.TheVariants as Wide
-use Rattle.types.specs.declared.AsF32.{AsF32}
-use Rattle.types.specs.declared.AsF32.TheVariants as F32
-use Rattle.types.specs.declared.AsF64.{AsF64}
-use Rattle.types.specs.declared.AsF64.TheVariants as F64
-use Rattle.types.specs.declared.AsFloat.{AsFloat}
-use Rattle.types.specs.declared.AsFloat.TheVariants as Fl
-use Rattle.types.specs.declared.AsInteger.{AsInteger}
-use Rattle.types.specs.declared.AsInteger.TheVariants as In
-use Rattle.report.specs.declared.Report.{Report}
-use Rattle.report.specs.declared.Report.TheVariants as RP
 use Rattle.types.specs.Values.{value}
 use Rattle.cast.specs.Variants.{sign, width}
-use Rattle.binary.specs.declared.Narrowed16.{Narrowed16}
-use Rattle.binary.specs.declared.Narrowed16.TheVariants as N16
-use Rattle.binary.specs.declared.Narrowed32.{Narrowed32}
-use Rattle.binary.specs.declared.Narrowed32.TheVariants as N32
 use Rattle.binary.specs.Formats.{Meaning, finite, infinite, nan}
 use Rattle.binary.specs.Floats.{float_meaning}
 use Rattle.types.specs.declared.Refusal.{Refusal}
-use Rattle.types.specs.declared.KindAnswer.{KindAnswer}
-use Rattle.types.specs.declared.KindAnswer.TheVariants as KA
-use Rattle.types.specs.declared.SpecialAnswer.{SpecialAnswer}
-use Rattle.types.specs.declared.SpecialAnswer.TheVariants as SA
-use Rattle.types.specs.declared.Written.{Written}
-use Rattle.types.specs.declared.Written.TheVariants as W
-use Rattle.types.specs.declared.HeaderAnswer.{HeaderAnswer}
-use Rattle.types.specs.declared.HeaderAnswer.TheVariants as H
-use Rattle.types.specs.declared.VersionAnswer.{VersionAnswer}
-use Rattle.types.specs.declared.VersionAnswer.TheVariants as VA
-use Rattle.types.specs.declared.BytesAnswer.{BytesAnswer}
-use Rattle.types.specs.declared.BytesAnswer.TheVariants as BA
-use Rattle.types.specs.declared.RawAnswer.{RawAnswer}
-use Rattle.types.specs.declared.RawAnswer.TheVariants as Ra
-use Rattle.types.specs.declared.Skipped.{Skipped}
-use Rattle.types.specs.declared.Skipped.TheVariants as SK
-use Rattle.types.specs.declared.Ran.{Ran}
-use Rattle.types.specs.declared.Ran.TheVariants as RN
 use Rattle.types.specs.declared.Tallied.{Tallied}
 use Rattle.types.specs.declared.TallyAnswer.{TallyAnswer}
 use Rattle.types.specs.declared.TallyAnswer.TheVariants as TA
-use Rattle.types.specs.declared.Checked.{Checked}
-use Rattle.types.specs.declared.Checked.TheVariants as C
 
 -- the number, and the values in the order of the answer's fields
 pub record Told : Type 0 where
@@ -102,37 +49,37 @@ taken vs = told 0 vs
 abbrev pub refused : List ℤ → Refusal → Told
 refused vs r = told (refusal_number r) (vs ++ map pos (refusal_data r))
 
-abbrev pub told_kind : KindAnswer → Told
-told_kind (KA.Known k) = taken (pos (kind_code k) ∷ [])
-told_kind (KA.Refused r) = refused [] r
+abbrev pub told_kind : Result Kind Refusal → Told
+told_kind (Ok k) = taken (pos (kind_code k) ∷ [])
+told_kind (Err r) = refused [] r
 
-abbrev pub told_special : SpecialAnswer → Told
-told_special (SA.Known s) = taken (pos (special_code s) ∷ [])
-told_special (SA.Refused r) = refused [] r
+abbrev pub told_special : Result Special Refusal → Told
+told_special (Ok s) = taken (pos (special_code s) ∷ [])
+told_special (Err r) = refused [] r
 
-abbrev pub told_written : Written → Told
-told_written (W.Count n) = taken (pos n ∷ [])
-told_written (W.Refused r) = refused [] r
+abbrev pub told_written : Result ℕ Refusal → Told
+told_written (Ok n) = taken (pos n ∷ [])
+told_written (Err r) = refused [] r
 
 abbrev pub told_header : HeaderAnswer → Told
-told_header (H.Read p k a) = taken (pos p.0 ∷ pos (kind_code k) ∷ pos a ∷ [])
-told_header (H.Refused p r) = refused (pos p.0 ∷ []) r
+told_header (Ok (p, k, a)) = taken (pos p.0 ∷ pos (kind_code k) ∷ pos a ∷ [])
+told_header (Err (p, r)) = refused (pos p.0 ∷ []) r
 
 abbrev pub told_version : VersionAnswer → Told
-told_version (VA.Read p v) = taken (pos p.0 ∷ pos v ∷ [])
-told_version (VA.Refused p r) = refused (pos p.0 ∷ []) r
+told_version (Ok (p, v)) = taken (pos p.0 ∷ pos v ∷ [])
+told_version (Err (p, r)) = refused (pos p.0 ∷ []) r
 
 -- a delivery mark as its start, its length, and 1 if lent, 0 if copied
 abbrev pub mark_told : Mark → List ℤ
 mark_told m = pos m.start ∷ pos m.len ∷ pos (pick m.lent 1 0) ∷ []
 
 abbrev pub told_bytes : BytesAnswer → Told
-told_bytes (BA.Read p m) = taken (pos p.0 ∷ mark_told m)
-told_bytes (BA.Refused p r) = refused (pos p.0 ∷ []) r
+told_bytes (Ok (p, m)) = taken (pos p.0 ∷ mark_told m)
+told_bytes (Err (p, r)) = refused (pos p.0 ∷ []) r
 
 abbrev pub told_raw : RawAnswer → Told
-told_raw (Ra.Read p n) = taken (pos p.0 ∷ pos n ∷ [])
-told_raw (Ra.Refused p r) = refused (pos p.0 ∷ []) r
+told_raw (Ok (p, n)) = taken (pos p.0 ∷ pos n ∷ [])
+told_raw (Err (p, r)) = refused (pos p.0 ∷ []) r
 
 -- the three places of an atom, in front of the values that follow. Document 02, K1: "its first place, the place where
 -- its body starts and the place after it".
@@ -141,16 +88,19 @@ places_told places vs = pos places.first.0 ∷ pos places.body.0 ∷ pos places.
 
 -- the step: a string is told by 1, another atom by 0
 abbrev pub told_skipped : Skipped → Told
-told_skipped (SK.Past p b places string) =
+told_skipped (Ok (p, b, places, string)) =
     taken (pos p.0 ∷ pos b.0 ∷ places_told places (pos (pick string 1 0) ∷ []))
-told_skipped (SK.Refused p b r) = refused (pos p.0 ∷ pos b.0 ∷ []) r
+told_skipped (Err (p, b, r)) = refused (pos p.0 ∷ pos b.0 ∷ []) r
+
+-- how far a run came
+abbrev pub run_told : Run → List ℤ → List ℤ
+run_told run vs = pos run.place.0 ∷ pos run.budget.0 ∷ pos run.atoms ∷ places_told run.last vs
 
 -- the run: "The run and the tally, refused or not, answer the three places of the last atom they read"; behind them the
 -- place where a refused atom starts, before the refusal's data
 abbrev pub told_ran : Ran → Told
-told_ran (RN.Done p b atoms last) = taken (pos p.0 ∷ pos b.0 ∷ pos atoms ∷ places_told last [])
-told_ran (RN.Stopped p b atoms last r start) =
-    refused (pos p.0 ∷ pos b.0 ∷ pos atoms ∷ places_told last (pos start.0 ∷ [])) r
+told_ran (Ok run) = taken (run_told run [])
+told_ran (Err (run, r, start)) = refused (run_told run (pos start.0 ∷ [])) r
 
 -- "It answers atoms, body bytes, charge and letters."
 abbrev pub tally_told : Tallied → List ℤ
@@ -164,8 +114,8 @@ told_tally (TA.Refused last r) = refused (places_told last []) r
 
 -- the check for shortest form: nothing, or where the refused atom starts
 abbrev pub told_checked : Checked → Told
-told_checked C.Accepted = taken []
-told_checked (C.Refused r start) = refused (pos start.0 ∷ []) r
+told_checked (Ok tt) = taken []
+told_checked (Err (r, start)) = refused (pos start.0 ∷ []) r
 
 -- an integer by its variant, signed or not and so many bits wide, and its value
 abbrev sign_told : Sign → ℕ
@@ -202,88 +152,88 @@ nucleus_told N.DynamicMap = pos 7 ∷ []
 nucleus_told N.DynamicEnd = pos 8 ∷ []
 
 abbrev pub told_integer : IntegerAnswer → Told
-told_integer (IA.Read p x) = taken (pos p.0 ∷ integer_told x)
-told_integer (IA.Refused p r) = refused (pos p.0 ∷ []) r
+told_integer (Ok (p, x)) = taken (pos p.0 ∷ integer_told x)
+told_integer (Err (p, r)) = refused (pos p.0 ∷ []) r
 
 abbrev pub told_float : FloatAnswer → Told
-told_float (FA.Read p x stored) = taken (pos p.0 ∷ pos stored ∷ float_told x)
-told_float (FA.Refused p r) = refused (pos p.0 ∷ []) r
+told_float (Ok (p, x, stored)) = taken (pos p.0 ∷ pos stored ∷ float_told x)
+told_float (Err (p, r)) = refused (pos p.0 ∷ []) r
 
 -- "Each atom read is to carry its first place, the place where its body starts and the place after it."
 abbrev pub told_atom : AtomAnswer → Told
-told_atom (A.Read p b x) =
+told_atom (Ok (p, b, x)) =
     taken
     (pos p.0 ∷ pos b.0 ∷ pos (kind_code x.kind) ∷ pos x.arg
     ∷ places_told x.places (nucleus_told x.nucleus))
-told_atom (A.Refused p b r) = refused (pos p.0 ∷ pos b.0 ∷ []) r
+told_atom (Err (p, b, r)) = refused (pos p.0 ∷ pos b.0 ∷ []) r
 
-abbrev pub told_budget : BudgetAnswer → Told
-told_budget (GA.Left b) = taken (pos b.0 ∷ [])
-told_budget (GA.Refused r) = refused [] r
+abbrev pub told_budget : Result Budget Refusal → Told
+told_budget (Ok b) = taken (pos b.0 ∷ [])
+told_budget (Err r) = refused [] r
 
-abbrev pub told_as_i8 : AsI8 → Told
-told_as_i8 (I8.Value z) = taken (z ∷ [])
-told_as_i8 (I8.Refused r) = refused [] r
+abbrev pub told_as_i8 : Result ℤ Refusal → Told
+told_as_i8 (Ok z) = taken (z ∷ [])
+told_as_i8 (Err r) = refused [] r
 
-abbrev pub told_as_i16 : AsI16 → Told
-told_as_i16 (I16.Value z) = taken (z ∷ [])
-told_as_i16 (I16.Refused r) = refused [] r
+abbrev pub told_as_i16 : Result ℤ Refusal → Told
+told_as_i16 (Ok z) = taken (z ∷ [])
+told_as_i16 (Err r) = refused [] r
 
-abbrev pub told_as_i32 : AsI32 → Told
-told_as_i32 (I32.Value z) = taken (z ∷ [])
-told_as_i32 (I32.Refused r) = refused [] r
+abbrev pub told_as_i32 : Result ℤ Refusal → Told
+told_as_i32 (Ok z) = taken (z ∷ [])
+told_as_i32 (Err r) = refused [] r
 
-abbrev pub told_as_i64 : AsI64 → Told
-told_as_i64 (I64.Value z) = taken (z ∷ [])
-told_as_i64 (I64.Refused r) = refused [] r
+abbrev pub told_as_i64 : Result ℤ Refusal → Told
+told_as_i64 (Ok z) = taken (z ∷ [])
+told_as_i64 (Err r) = refused [] r
 
-abbrev pub told_as_u8 : AsU8 → Told
-told_as_u8 (U8.Value k) = taken (pos k ∷ [])
-told_as_u8 (U8.Refused r) = refused [] r
+abbrev pub told_as_u8 : Result ℕ Refusal → Told
+told_as_u8 (Ok k) = taken (pos k ∷ [])
+told_as_u8 (Err r) = refused [] r
 
-abbrev pub told_as_u16 : AsU16 → Told
-told_as_u16 (U16.Value k) = taken (pos k ∷ [])
-told_as_u16 (U16.Refused r) = refused [] r
+abbrev pub told_as_u16 : Result ℕ Refusal → Told
+told_as_u16 (Ok k) = taken (pos k ∷ [])
+told_as_u16 (Err r) = refused [] r
 
-abbrev pub told_as_u32 : AsU32 → Told
-told_as_u32 (U32.Value k) = taken (pos k ∷ [])
-told_as_u32 (U32.Refused r) = refused [] r
+abbrev pub told_as_u32 : Result ℕ Refusal → Told
+told_as_u32 (Ok k) = taken (pos k ∷ [])
+told_as_u32 (Err r) = refused [] r
 
-abbrev pub told_as_u64 : AsU64 → Told
-told_as_u64 (U64.Value k) = taken (pos k ∷ [])
-told_as_u64 (U64.Refused r) = refused [] r
+abbrev pub told_as_u64 : Result ℕ Refusal → Told
+told_as_u64 (Ok k) = taken (pos k ∷ [])
+told_as_u64 (Err r) = refused [] r
 
 -- the low word and the high word
-abbrev pub told_as_wide : AsWide → Told
-told_as_wide (Wide.Value w) = taken (pos w.lo ∷ pos w.hi ∷ [])
-told_as_wide (Wide.Refused r) = refused [] r
+abbrev pub told_as_wide : Result Wide Refusal → Told
+told_as_wide (Ok w) = taken (pos w.lo ∷ pos w.hi ∷ [])
+told_as_wide (Err r) = refused [] r
 
-abbrev pub told_as_f32 : AsF32 → Told
-told_as_f32 (F32.Value x) = taken (value_told x)
-told_as_f32 (F32.Refused r) = refused [] r
+abbrev pub told_as_f32 : Result Ieee.Float Refusal → Told
+told_as_f32 (Ok x) = taken (value_told x)
+told_as_f32 (Err r) = refused [] r
 
-abbrev pub told_as_f64 : AsF64 → Told
-told_as_f64 (F64.Value x) = taken (value_told x)
-told_as_f64 (F64.Refused r) = refused [] r
+abbrev pub told_as_f64 : Result Ieee.Float Refusal → Told
+told_as_f64 (Ok x) = taken (value_told x)
+told_as_f64 (Err r) = refused [] r
 
-abbrev pub told_as_float : AsFloat → Told
-told_as_float (Fl.Value x) = taken (float_told x)
-told_as_float (Fl.Refused r) = refused [] r
+abbrev pub told_as_float : Result Float Refusal → Told
+told_as_float (Ok x) = taken (float_told x)
+told_as_float (Err r) = refused [] r
 
-abbrev pub told_as_integer : AsInteger → Told
-told_as_integer (In.Value x) = taken (integer_told x)
-told_as_integer (In.Refused r) = refused [] r
+abbrev pub told_as_integer : Result Integer Refusal → Told
+told_as_integer (Ok x) = taken (integer_told x)
+told_as_integer (Err r) = refused [] r
 
 -- a narrower pattern, or none: no refusal either way
-abbrev pub told_narrowed16 : Narrowed16 → Told
-told_narrowed16 (N16.Pattern q) = taken (pos q ∷ [])
-told_narrowed16 N16.None = taken []
+abbrev pub told_narrowed16 : Option ℕ → Told
+told_narrowed16 (Some q) = taken (pos q ∷ [])
+told_narrowed16 None = taken []
 
-abbrev pub told_narrowed32 : Narrowed32 → Told
-told_narrowed32 (N32.Pattern q) = taken (pos q ∷ [])
-told_narrowed32 N32.None = taken []
+abbrev pub told_narrowed32 : Option ℕ → Told
+told_narrowed32 (Some q) = taken (pos q ∷ [])
+told_narrowed32 None = taken []
 
 -- what the tally program finds of a file
 abbrev pub told_report : Report → Told
-told_report (RP.Counted version bytes t) = taken (pos version ∷ pos bytes ∷ tally_told t)
-told_report (RP.Refused r start) = refused (pos start.0 ∷ []) r
+told_report (Ok (version, bytes, t)) = taken (pos version ∷ pos bytes ∷ tally_told t)
+told_report (Err (r, start)) = refused (pos start.0 ∷ []) r

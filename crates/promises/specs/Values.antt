@@ -1,6 +1,6 @@
 -- What the value writers can be given, what their contracts say that they write of it, and what it is for an atom to
 -- carry it. For demand 2: "what was written reads back as the value written".
-use Rattle.std.specs.Prelude.{ℕ, ◌+◌, ◌-◌, ◌<◌, ◌^◌, ◌≡◌, Bool, true, List, ◌++◌, T, ℤ, pos, length}
+use Rattle.std.specs.Prelude.{ℕ, ◌+◌, ◌-◌, ◌<◌, ◌^◌, ◌≡◌, Bool, true, List, ◌++◌, T, ℤ, pos, length, Ok}
 use Rattle.std.specs.Float.Ieee as Ieee
 use mir.Syntax.{Sign, signed, unsigned}
 use Rattle.types.specs.Kinds.{special_code}
@@ -16,7 +16,6 @@ use Rattle.types.specs.declared.Nucleus.TheVariants as N
 use Rattle.types.specs.declared.Atom.{Atom}
 use Rattle.types.specs.declared.Places.{Places}
 use Rattle.types.specs.declared.Budget.{Budget}
-use Rattle.types.specs.declared.AtomAnswer.TheVariants as A
 use Rattle.header.specs.Header.{header_bytes}
 use Rattle.reader.specs.Strings.{scratch_needed}
 use Rattle.reader.specs.Parts.{marked_bytes}
@@ -136,8 +135,7 @@ pub record ReadBack (way : Way) (before after : List ℕ) (budget : Budget) (scr
     pub atom : Atom
     pub is_read_back :
         atom_read way (around before after value) (length before) budget scratch
-        ≡ A.Read (record { 0 = length before + length (written value) })
-        (record { 0 = budget.0 - price (written value) }) atom
+        ≡ Ok (record { 0 = length before + length (written value) }, record { 0 = budget.0 - price (written value) }, atom)
     pub stands : atom.places ≡ places_at (length before) (written value)
     pub carries :
         Carries (around before after value)

@@ -1,5 +1,6 @@
 -- The laws of the string read over every way, for the layers above: when it is taken, what it delivers, where the place
 -- is after it, and that a string which stands in the source is read back.
+use Rattle.std.specs.Prelude.{Ok, Err}
 use mathlib.Core.Path.{◌≡◌, refl, ◌∙◌, sym, ap}
 use mathlib.Core.Bool.{Bool, true, false, false≢true}
 use mathlib.Core.List.{List, ◌++◌}
@@ -9,12 +10,12 @@ use lib.Dec.{ltb}
 use lib.ListN.{length, take, drop, length-append}
 use lib.Seq.{take_at, take-append_seam, drop-append_seam}
 use borrow.Author.Tests.{ltb-true, ltb-false}
+use Rattle.types.proofs.Answers.{same_ok}
 use Rattle.types.specs.Refusals.{no_room}
 use Rattle.types.specs.declared.Mark.{Mark}
 use Rattle.types.specs.declared.Place.{Place}
 use Rattle.types.specs.declared.Way.{Way}
 use Rattle.types.specs.declared.Way.TheVariants as W
-use Rattle.types.specs.declared.BytesAnswer.TheVariants as B
 use Rattle.reader.specs.Parts.{marked_bytes, part_of}
 use Rattle.reader.specs.Strings.{start_of, string_of, string_eof, string_read, lent_mark, copied_mark, copied_scratch, string_answer, string_scratch, string_mark, scratch_needed, string_place}
 use Rattle.reader.proofs.Parts.{part_within, marked_lent, marked_copied}
@@ -38,7 +39,7 @@ string_eof_lem W.ExactCopied s place n scratch h = (copied_eof s place n scratch
 -- Whole, and longer than the scratch: refusal 9 where it starts, and the scratch as it was.
 pub string_no_room : (way : Way) (s : List ℕ) (place n : ℕ) (scratch : List ℕ) → start_of s place + n ≤ length s →
     length scratch < scratch_needed way n →
-    (string_answer way s place n scratch ≡ B.Refused (record { 0 = start_of s place }) (no_room n)) ×
+    (string_answer way s place n scratch ≡ Err (record { 0 = start_of s place }, no_room n)) ×
     (string_scratch way s place n scratch ≡ scratch)
 string_no_room W.Filled s place n scratch h r = absurd (omega arith)
 string_no_room W.ExactLent s place n scratch h r = absurd (omega arith)
@@ -102,28 +103,30 @@ string_forward way s place n scratch = forward_by way s place n scratch (outcome
 
 -- A string that was read was whole, ends at the place after it, and its mark resolves to its bytes.
 taken_by : (way : Way) (s : List ℕ) (place n : ℕ) (scratch : List ℕ) (p : Place) (m : Mark) →
-    Outcome way s place n scratch → string_answer way s place n scratch ≡ B.Read p m →
+    Outcome way s place n scratch → string_answer way s place n scratch ≡ Ok (p, m) →
     (start_of s place + n ≤ length s) × (p.0 ≡ start_of s place + n) ×
     (marked_bytes m s (string_scratch way s place n scratch) ≡ string_of s place n)
 taken_by way s place n scratch p m (whole h r) e =
     let a = string_read_lem way s place n scratch h r in
     let d = string_delivered way s place n scratch h r in
-    let pe : p ≡ record { 0 = start_of s place + n } = cc in
-    let me : m ≡ string_mark way (start_of s place) n = cc in
-    (h, ap (λ (q : Place). q.0) pe, ap (λ (k : Mark). marked_bytes k s (string_scratch way s place n scratch)) me ∙ d)
+    let b = same_ok (sym e ∙ a) in (
+      h,
+      ap (λ (x : Place × Mark). x.0.0) b,
+      ap (λ (x : Place × Mark). marked_bytes x.1 s (string_scratch way s place n scratch)) b ∙ d,
+    )
 taken_by way s place n scratch p m (cut h) e = let a = (string_eof_lem way s place n scratch h).0 in absurd (false≢true cc)
 taken_by way s place n scratch p m (cramped h r) e = let a = (string_no_room way s place n scratch h r).0 in
     absurd (false≢true cc)
 
 pub string_taken : (way : Way) (s : List ℕ) (place n : ℕ) (scratch : List ℕ) (p : Place) (m : Mark) →
-    string_answer way s place n scratch ≡ B.Read p m →
+    string_answer way s place n scratch ≡ Ok (p, m) →
     (start_of s place + n ≤ length s) × (p.0 ≡ start_of s place + n) ×
     (marked_bytes m s (string_scratch way s place n scratch) ≡ string_of s place n)
 string_taken way s place n scratch p m e = taken_by way s place n scratch p m (outcome way s place n scratch) e
 
 -- Where two ways both read a string, place and bytes are the same, lent or copied.
 pub ways_agree : (v w : Way) (s : List ℕ) (place n : ℕ) (a b : List ℕ) (p q : Place) (k m : Mark) →
-    string_answer v s place n a ≡ B.Read p k → string_answer w s place n b ≡ B.Read q m →
+    string_answer v s place n a ≡ Ok (p, k) → string_answer w s place n b ≡ Ok (q, m) →
     (p.0 ≡ q.0) × (marked_bytes k s (string_scratch v s place n a) ≡ marked_bytes m s (string_scratch w s place n b))
 ways_agree v w s place n a b p q k m e f =
     let x = string_taken v s place n a p k e in
@@ -149,12 +152,12 @@ module _ (s before bytes after : List ℕ) (e : s ≡ before ++ (bytes ++ after)
 
   pub string_back : (way : Way) (scratch : List ℕ) → scratch_needed way (length bytes) ≤ length scratch →
       (string_answer way s (length before) (length bytes) scratch
-      ≡ B.Read (record { 0 = length before + length bytes }) (string_mark way (length before) (length bytes))) ×
+      ≡ Ok (record { 0 = length before + length bytes }, string_mark way (length before) (length bytes))) ×
       (marked_bytes (string_mark way (length before) (length bytes)) s
       (string_scratch way s (length before) (length bytes) scratch) ≡ bytes)
   string_back way scratch r = (
     string_read_lem way s (length before) (length bytes) scratch back_whole r
-        ∙ ap (λ (k : ℕ). B.Read (record { 0 = k + length bytes }) (string_mark way k (length bytes))) back_start,
+        ∙ ap (λ (k : ℕ). Ok (record { 0 = k + length bytes }, string_mark way k (length bytes))) back_start,
     ap (λ (k : ℕ). marked_bytes (string_mark way k (length bytes)) s
         (string_scratch way s (length before) (length bytes) scratch)) (sym back_start)
         ∙ (string_delivered way s (length before) (length bytes) scratch back_whole r ∙ back_string),

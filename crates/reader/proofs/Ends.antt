@@ -1,60 +1,27 @@
 -- The ends of the reads that move bytes: what the code has in hand at each return, and what it answers there. The code
 -- subtracts a start from the length where the definitions add, since a sum may not fit a usize.
-use mathlib.Core.Path.{◌≡◌, refl, ◌∙◌}
+use Rattle.std.specs.Prelude.{Ok, Err}
+use mathlib.Core.Path.{◌≡◌}
 use mathlib.Core.Bool.{Bool, true, false, and-false}
-use mathlib.Core.List.{List, [], ◌∷◌}
-use Prim.Native.Nat.{ℕ, ◌+◌, ◌-◌, ◌≤◌, ◌<◌}
+use mathlib.Core.List.{List}
+use Prim.Native.Nat.{ℕ, ◌+◌, ◌-◌, ◌≤◌, ◌<◌, min}
 use native.Mathlib.Omega.{arith}
 use borrow.Author.Rules.{rules}
 use borrow.Author.Tests.{le-ltb, lt-ltb}
-use denote.Enum.Declared.{tag_of}
 use lib.ListN.{length, take, drop, length-drop}
-use lib.Seq.{drop-length, take-nil, take_all, length-take-le}
-use types.Run.{OneOf, miss}
-use Rattle.types.specs.contracts.Way.{the_type}
+use lib.Seq.{length-take-le}
+use Rattle.std.proofs.lemmas.List.{take_min, length-take}
+use Rattle.types.specs.Answers.{RawAnswer}
 use Rattle.types.specs.Refusals.{no_room}
 use Rattle.types.specs.Ways.{exact}
 use Rattle.types.specs.declared.Mark.{Mark}
 use Rattle.types.specs.declared.Refusal.{Refusal}
 use Rattle.types.specs.declared.Refusal.TheVariants as R
 use Rattle.types.specs.declared.Way.{Way}
-use Rattle.types.specs.declared.Way.TheVariants as W
-use Rattle.types.specs.declared.BytesAnswer.{BytesAnswer}
-use Rattle.types.specs.declared.BytesAnswer.TheVariants as B
-use Rattle.types.specs.declared.RawAnswer.{RawAnswer}
-use Rattle.types.specs.declared.RawAnswer.TheVariants as Ra
 use Rattle.lent.specs.Lent.{copied_over}
 use Rattle.reader.specs.Parts.{part_of, pointer_of, marked_bytes, marked_pointer}
 use Rattle.reader.specs.Strings.{start_of, lent_mark, copied_mark, lent_string, copied_string, copied_scratch}
-use Rattle.reader.specs.Strings.{string_answer, string_scratch}
-use Rattle.reader.specs.Raw.{raw_bytes, raw_answer, raw_buffer, raw_exactly, raw_exactly_buffer}
-
--- the part of a slice, and where it lies
-module _ (s : List ℕ) (start len : ℕ) where
-  -- it is there
-  module _ (h : start ≤ length s) (k : len ≤ length s - start) where
-    pub part_there : take (start + len - start) (drop start s) ≡ part_of s start len
-    part_there =
-        let n : start + len - start ≡ len = omega arith in
-        cc (n, le-ltb (length s) (start + len) (omega arith))
-
-    pub pointer_there : (block at : ℕ) → (block, start + at) ≡ pointer_of (block, at) s start len
-    pointer_there block at = cc (le-ltb (length s) (start + len) (omega arith))
-
-  -- it reaches past the end, where the empty part is
-  module _ (past : length s < start + len) where
-    pub part_past : take (length s - length s) (drop (length s) s) ≡ part_of s start len
-    part_past = rw (drop-length s, take-nil (length s - length s)) (cc (lt-ltb (length s) (start + len) past))
-
-    pub pointer_past : (block at : ℕ) → (block, length s + at) ≡ pointer_of (block, at) s start len
-    pointer_past block at = cc (lt-ltb (length s) (start + len) past)
-
-  -- by its length, and by its start
-  pub reaches_past_lem : length s - start < len → length s < start + len
-  reaches_past_lem h = omega arith
-
-  pub starts_past : length s < start → length s < start + len
-  starts_past h = omega arith
+use Rattle.reader.specs.Raw.{raw_answer, raw_buffer, raw_exactly, raw_exactly_buffer}
 
 -- the part that a mark says: of the source, and of the scratch
 module _ (mark : Mark) (source scratch : List ℕ) where
@@ -79,19 +46,7 @@ module _ (mark : Mark) (source scratch : List ℕ) where
     unfolding marked_pointer
     scratch_pointer p q r e = simp copied e
 
-pub ruleset part_ends = (
-  part_there,
-  pointer_there,
-  part_past,
-  pointer_past,
-  reaches_past_lem,
-  starts_past,
-  source_bytes,
-  source_pointer,
-  scratch_bytes,
-  scratch_pointer,
-  rules,
-)
+pub ruleset part_ends = (source_bytes, source_pointer, scratch_bytes, scratch_pointer, rules)
 
 -- a read at a place
 module _ (s : List ℕ) (place at : ℕ) (e : at ≡ start_of s place) (w : at ≤ length s) where
@@ -101,13 +56,13 @@ module _ (s : List ℕ) (place at : ℕ) (e : at ≡ start_of s place) (w : at �
       fits : length (take n (drop at s)) ≡ n
       fits = length-take-le n (drop at s) (rw length-drop h)
 
-      pub lent_taken : B.Read (record { 0 = at + n }) (lent_mark at n) ≡ lent_string s place n
+      pub lent_taken : Ok (record { 0 = at + n }, lent_mark at n) ≡ lent_string s place n
       unfolding lent_string
       lent_taken = cc (le-ltb (length s) (at + n) (omega arith))
 
       -- it is copied: the scratch has room for it, or not
       module _ (scratch : List ℕ) (room : n ≤ length scratch) where
-        pub copied_taken : B.Read (record { 0 = at + n }) (copied_mark n) ≡ copied_string s place n scratch
+        pub copied_taken : Ok (record { 0 = at + n }, copied_mark n) ≡ copied_string s place n scratch
         unfolding copied_string
         copied_taken = cc (le-ltb (length s) (at + n) (omega arith), le-ltb (length scratch) n room)
 
@@ -122,7 +77,7 @@ module _ (s : List ℕ) (place at : ℕ) (e : at ≡ start_of s place) (w : at �
 
       module _ (scratch : List ℕ) (short : length scratch < n) where
         pub copied_no_room : (why : Refusal) → why ≡ no_room n →
-            B.Refused (record { 0 = at }) why ≡ copied_string s place n scratch
+            Err (record { 0 = at }, why) ≡ copied_string s place n scratch
         unfolding copied_string
         copied_no_room why r = cc (le-ltb (length s) (at + n) (omega arith), lt-ltb (length scratch) n short)
 
@@ -134,11 +89,11 @@ module _ (s : List ℕ) (place at : ℕ) (e : at ≡ start_of s place) (w : at �
             cc (le-ltb (length s) (at + n) (omega arith), r)
 
     module _ (h : length s - at < n) where
-      pub lent_ended : B.Refused (record { 0 = length s }) R.Eof ≡ lent_string s place n
+      pub lent_ended : Err (record { 0 = length s }, R.Eof) ≡ lent_string s place n
       unfolding lent_string
       lent_ended = cc (lt-ltb (length s) (at + n) (omega arith))
 
-      pub copied_ended : (scratch : List ℕ) → B.Refused (record { 0 = length s }) R.Eof ≡ copied_string s place n scratch
+      pub copied_ended : (scratch : List ℕ) → Err (record { 0 = length s }, R.Eof) ≡ copied_string s place n scratch
       unfolding copied_string
       copied_ended scratch = cc (lt-ltb (length s) (at + n) (omega arith))
 
@@ -146,35 +101,19 @@ module _ (s : List ℕ) (place at : ℕ) (e : at ≡ start_of s place) (w : at �
       unfolding copied_scratch
       ended_scratch scratch = cc (lt-ltb (length s) (at + n) (omega arith))
 
-  -- raw bytes: the buffer is filled, or what is left is read
+  -- raw bytes: as many as the buffer holds, or as are left
   module _ (buffer : List ℕ) where
-    pub full_answer : length buffer ≤ length s - at →
-        Ra.Read (record { 0 = at + length buffer }) (length buffer) ≡ raw_answer s place buffer
-    unfolding raw_answer
-    full_answer h = cc (fits (length buffer) h)
-
-    pub full_buffer : (new : List ℕ) → new ≡ copied_over (take (at + length buffer - at) (drop at s)) buffer →
-        new ≡ raw_buffer s place buffer
-    unfolding raw_buffer
-    full_buffer new k = let n : at + length buffer - at ≡ length buffer = omega arith in cc n
-
-    module _ (h : length s - at < length buffer) where
-      rest : raw_bytes s place buffer ≡ drop at s
-      rest = rw (← e) (take_all (length buffer) (drop at s) (rw length-drop (omega arith)))
-
-      all : take (length s - at) (drop at s) ≡ drop at s
-      all = take_all (length s - at) (drop at s) (rw length-drop (omega arith))
-
-      pub short_answer : Ra.Read (record { 0 = length s }) (length s - at) ≡ raw_answer s place buffer
+    module _ (count : ℕ) (c : count ≡ min (length buffer) (length s - at)) where
+      pub read_answer : Ok (record { 0 = at + count }, count) ≡ raw_answer s place buffer
       unfolding raw_answer
-      short_answer =
-          let p : at + (length s - at) ≡ length s = omega arith in
-          cc (p, rest, length-drop at s)
+      read_answer = cc (length-take (length buffer) (drop at s), length-drop at s)
 
-      pub short_buffer : (new : List ℕ) → new ≡ copied_over (take (length s - at) (drop at s)) buffer →
+      pub read_buffer : (new : List ℕ) → new ≡ copied_over (take (at + count - at) (drop at s)) buffer →
           new ≡ raw_buffer s place buffer
       unfolding raw_buffer
-      short_buffer new k = cc (rest, all)
+      read_buffer new k =
+          let n : at + count - at ≡ count = omega arith in
+          cc (n, take_min (length buffer) (drop at s), length-drop at s)
 
     -- to be filled whole: the read serves both ways
     module _ (way : Way) where
@@ -190,7 +129,7 @@ module _ (s : List ℕ) (place at : ℕ) (e : at ≡ start_of s place) (w : at �
       -- fewer bytes are left: exact reading refuses
       module _ (exactly : Bool) (x : exactly ≡ exact way) where
         module _ (y : exactly ≡ true) (h : length s - at < length buffer) where
-          pub exact_answer : Ra.Refused (record { 0 = length s }) R.Eof ≡ raw_exactly way s place buffer
+          pub exact_answer : Err (record { 0 = length s }, R.Eof) ≡ raw_exactly way s place buffer
           unfolding raw_exactly
           exact_answer = cc (lt-ltb (length s) (at + length buffer) (omega arith))
 
@@ -214,36 +153,7 @@ pub ruleset lent_ends = (lent_taken, lent_ended, rules)
 pub ruleset copied_ends =
     (copied_taken, copied_scratch_lem, copied_no_room, no_room_scratch, copied_ended, ended_scratch, rules)
 
-pub ruleset raw_ends = (full_answer, full_buffer, short_answer, short_buffer, rules)
+pub ruleset raw_ends = (read_answer, read_buffer, rules)
 
 pub ruleset exactly_ends =
     (whole_answer, whole_buffer, exact_answer, exact_buffer, filled_answer, filled_buffer, rules)
-
--- a string by its way: lent by the first two, copied by the last
-module _ (way : Way) (s : List ℕ) (place n : ℕ) (scratch : List ℕ) where
-  pub lent_way : (r : BytesAnswer) → OneOf (0 ∷ 1 ∷ []) (tag_of the_type way) → r ≡ lent_string s place n →
-      r ≡ string_answer way s place n scratch
-  lent_way r h e = e ∙ same way h
-    where
-      same : (v : Way) → OneOf (0 ∷ 1 ∷ []) (tag_of the_type v) → lent_string s place n ≡ string_answer v s place n scratch
-      same W.Filled h = refl
-      same W.ExactLent h = refl
-      same W.ExactCopied h = absurd (miss (0 ∷ 1 ∷ []) 2 tt h)
-
-  pub lent_scratch : OneOf (0 ∷ 1 ∷ []) (tag_of the_type way) → scratch ≡ string_scratch way s place n scratch
-  lent_scratch h = same way h
-    where
-      same : (v : Way) → OneOf (0 ∷ 1 ∷ []) (tag_of the_type v) → scratch ≡ string_scratch v s place n scratch
-      same W.Filled h = refl
-      same W.ExactLent h = refl
-      same W.ExactCopied h = absurd (miss (0 ∷ 1 ∷ []) 2 tt h)
-
-  module _ (copied : way ≡ W.ExactCopied) where
-    pub copied_way : (r : BytesAnswer) → r ≡ copied_string s place n scratch → r ≡ string_answer way s place n scratch
-    copied_way r e = rw copied e
-
-    pub copied_way_scratch : (new : List ℕ) → new ≡ copied_scratch s place n scratch →
-        new ≡ string_scratch way s place n scratch
-    copied_way_scratch new e = rw copied e
-
-pub ruleset way_ends = (lent_way, lent_scratch, copied_way, copied_way_scratch, rules)

@@ -1,4 +1,5 @@
 -- The laws of the string read that every caller cites: when it is taken or refused, and what it delivers.
+use Rattle.std.specs.Prelude.{Err}
 use mathlib.Core.Path.{◌≡◌, ◌∙◌, ap}
 use mathlib.Core.List.{List, ◌++◌}
 use Prim.Native.Nat.{ℕ, ◌+◌, ◌≤◌, ◌<◌}
@@ -8,7 +9,6 @@ use lib.Seq.{length-take-le}
 use borrow.Author.Tests.{le-ltb, lt-ltb}
 use Rattle.types.specs.Refusals.{no_room}
 use Rattle.types.proofs.Counters.{place_within, place_same}
-use Rattle.types.specs.declared.BytesAnswer.TheVariants as B
 use Rattle.lent.proofs.Stores.{content_room, content_short}
 use Rattle.reader.specs.Strings.{start_of, string_of, string_eof, lent_mark, copied_mark, string_read, lent_string, copied_string, copied_scratch}
 
@@ -41,7 +41,7 @@ module _ (s : List ℕ) (place n : ℕ) (scratch : List ℕ) where
   copied_read h r = simp (le-ltb (length s) (start_of s place + n) h, le-ltb (length scratch) n r)
 
   pub copied_no_room : start_of s place + n ≤ length s → length scratch < n →
-      copied_string s place n scratch ≡ B.Refused (record { 0 = start_of s place }) (no_room n)
+      copied_string s place n scratch ≡ Err (record { 0 = start_of s place }, no_room n)
   unfolding copied_string
   copied_no_room h r = simp (le-ltb (length s) (start_of s place + n) h, lt-ltb (length scratch) n r)
 

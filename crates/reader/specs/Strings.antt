@@ -1,6 +1,7 @@
 -- The string read. Document 01, "Two ways of reading" and "Refusals by number". Each definition takes the source, the
 -- place given, the string's length and, where it copies, the scratch as it was.
-use Rattle.std.specs.Prelude.{ℕ, ◌+◌, Bool, true, false, List, ltb, length, take, drop}
+use Rattle.std.specs.Prelude.{ℕ, ◌+◌, Bool, true, false, List, ltb, length, take, drop, Ok, Err}
+use Rattle.types.specs.Answers.{BytesAnswer}
 use Rattle.types.specs.Choice.{pick}
 use Rattle.types.specs.Counters.{place_in}
 use Rattle.types.specs.Refusals.{no_room}
@@ -8,8 +9,6 @@ use Rattle.types.specs.declared.Mark.{Mark}
 use Rattle.types.specs.declared.Way.{Way}
 use Rattle.types.specs.declared.Way.TheVariants as W
 use Rattle.types.specs.declared.Refusal.TheVariants as R
-use Rattle.types.specs.declared.BytesAnswer.{BytesAnswer}
-use Rattle.types.specs.declared.BytesAnswer.TheVariants as B
 use Rattle.lent.specs.Lent.{written_content}
 
 -- where the string starts: "A given place past the end counts as the end."
@@ -26,7 +25,7 @@ runs_out s place n = ltb (length s) (start_of s place + n)
 
 -- "end of slice"
 abbrev pub string_eof : List ℕ → BytesAnswer
-string_eof s = B.Refused (record { 0 = length s }) R.Eof
+string_eof s = Err (record { 0 = length s }, R.Eof)
 
 -- "lent, as the part of the source that holds it"
 abbrev pub lent_mark : ℕ → ℕ → Mark
@@ -38,7 +37,7 @@ copied_mark n = record { start = 0; len = n; lent = false }
 
 -- the place just past the string, and its mark
 abbrev pub string_read : List ℕ → ℕ → ℕ → Mark → BytesAnswer
-string_read s place n m = B.Read (record { 0 = start_of s place + n }) m
+string_read s place n m = Ok (record { 0 = start_of s place + n }, m)
 
 -- a string lent
 unfoldable pub lent_string : List ℕ → ℕ → ℕ → BytesAnswer
@@ -49,7 +48,7 @@ lent_string s place n =
 unfoldable pub copied_string : List ℕ → ℕ → ℕ → List ℕ → BytesAnswer
 copied_string s place n scratch =
     pick (runs_out s place n) (string_eof s)
-    (pick (ltb (length scratch) n) (B.Refused (record { 0 = start_of s place }) (no_room n))
+    (pick (ltb (length scratch) n) (Err (record { 0 = start_of s place }, no_room n))
     (string_read s place n (copied_mark n)))
 
 -- "Copying fills the first bytes and the rest keep their value"; on a refusal "buffers keep their bytes"
@@ -82,5 +81,5 @@ scratch_needed W.ExactCopied n = n
 
 -- the place after a string read
 abbrev pub string_place : BytesAnswer → ℕ
-string_place (B.Read p m) = p.0
-string_place (B.Refused p r) = p.0
+string_place (Ok (p, m)) = p.0
+string_place (Err (p, r)) = p.0

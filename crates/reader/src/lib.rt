@@ -15,13 +15,11 @@ pub fn part(slice: &[u8], start: usize, len: usize) -> &[u8]
     ensures ref_ptr_value { result.ref_ptr ≡ pointer_of slice.entry.ref_ptr slice.now start len }
 {
     let end = slice.len();
-    if start <= end {
-        if len <= end - start {
-            return &slice[start..start + len];
-        }
-        return &slice[end..];
+    if start <= end && len <= end - start {
+        &slice[start..start + len]
+    } else {
+        &slice[end..]
     }
-    return &slice[end..];
 }
 
 // Resolves a delivery mark: a part of the source if lent, else of the scratch.
@@ -30,13 +28,11 @@ pub fn as_slice<'a>(source: &'a [u8], scratch: &'a [u8], mark: Mark) -> &'a [u8]
     ensures ref_ptr_value { result.ref_ptr ≡
         marked_pointer mark source.entry.ref_ptr scratch.entry.ref_ptr source.now scratch.now }
 {
-    let start = mark.start;
-    let len = mark.len;
-    let lent = mark.lent;
-    if lent {
-        return part(source, start, len);
+    if mark.lent {
+        part(source, mark.start, mark.len)
+    } else {
+        part(scratch, mark.start, mark.len)
     }
-    return part(scratch, start, len);
 }
 
 // Reads a string as a part of the source.
@@ -47,16 +43,16 @@ pub fn lend_bytes(source: &[u8], place: Place, length: u64) -> BytesAnswer
     let at = place.within(end);
     if length <= (end - at) as u64 {
         let count = length as usize;
-        return BytesAnswer::Read(
+        return Ok((
             Place(at + count),
             Mark {
                 start: at,
                 len: count,
                 lent: true,
             },
-        );
+        ));
     }
-    return BytesAnswer::Refused(Place(end), Refusal::Eof);
+    Err((Place(end), Refusal::Eof))
 }
 
 // Reads a string into the first bytes of scratch. The end of input is judged before the room.
@@ -69,22 +65,22 @@ pub fn copy_bytes(source: &[u8], place: Place, length: u64, scratch: &mut [u8]) 
     let at = place.within(end);
     let left = (end - at) as u64;
     if left < length {
-        return BytesAnswer::Refused(Place(end), Refusal::Eof);
+        return Err((Place(end), Refusal::Eof));
     }
     let count = length as usize;
     if scratch.len() < count {
-        return BytesAnswer::Refused(Place(at), Refusal::no_room(count));
+        return Err((Place(at), Refusal::no_room(count)));
     }
     let next = at + count;
     lent::copy_in(scratch, &source[at..next]);
-    return BytesAnswer::Read(
+    Ok((
         Place(next),
         Mark {
             start: 0,
             len: count,
             lent: false,
         },
-    );
+    ))
 }
 
 // Reads exactly `length` bytes, lent or copied as the way says.
@@ -100,12 +96,8 @@ pub fn buffered_read_bytes(
         string_scratch way source.now place.0 length scratch.old }
 {
     match way {
-        Way::Filled | Way::ExactLent => {
-            return lend_bytes(source, place, length);
-        }
-        Way::ExactCopied => {
-            return copy_bytes(source, place, length, scratch);
-        }
+        Way::Filled | Way::ExactLent => lend_bytes(source, place, length),
+        Way::ExactCopied => copy_bytes(source, place, length, scratch),
     }
 }
 
@@ -116,15 +108,10 @@ pub fn read(source: &[u8], place: Place, buffer: &mut [u8]) -> RawAnswer
 {
     let end = source.len();
     let at = place.within(end);
-    let room = buffer.len();
-    let left = end - at;
-    if room <= left {
-        let next = at + room;
-        lent::copy_in(buffer, &source[at..next]);
-        return RawAnswer::Read(Place(next), room);
-    }
-    lent::copy_in(buffer, &source[at..end]);
-    return RawAnswer::Read(Place(end), left);
+    let count = buffer.len().min(end - at);
+    let next = at + count;
+    lent::copy_in(buffer, &source[at..next]);
+    Ok((Place(next), count))
 }
 
 // Fills the whole buffer. Where fewer bytes are left, filled reading takes these, and exact reading refuses.
@@ -135,12 +122,14 @@ pub fn read_exact(source: &[u8], place: Place, buffer: &mut [u8], way: Way) -> R
 {
     let end = source.len();
     let at = place.within(end);
+    // One `read` after `way.is_exact() && left < buffer.len()` was tried: the proof where the ways join did not close.
     let left = end - at;
     if buffer.len() <= left {
         return read(source, place, buffer);
     }
     if way.is_exact() {
-        return RawAnswer::Refused(Place(end), Refusal::Eof);
+        Err((Place(end), Refusal::Eof))
+    } else {
+        read(source, place, buffer)
     }
-    return read(source, place, buffer);
 }

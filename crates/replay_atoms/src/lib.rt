@@ -3,7 +3,7 @@
 #![tactic(auto)]
 
 use replay_wire::{Asked, Cursor, Reply};
-use types::{Atom, AtomAnswer, Budget, BudgetAnswer, Nucleus};
+use types::{Atom, AtomAnswer, Budget, Nucleus};
 
 // Puts the code of a nucleus, and what it holds. Of a float, the argument tells the bytes that are stored.
 fn put_nucleus(out: &mut [u8], reply: Reply, nucleus: Nucleus, arg: u64, scratch: &[u8]) -> Reply {
@@ -46,11 +46,11 @@ fn put_atom(out: &mut [u8], reply: Reply, read: Atom, scratch: &[u8]) -> Reply {
 // Puts what an atom read answered.
 pub fn put_answer(out: &mut [u8], reply: Reply, answer: AtomAnswer, scratch: &[u8]) -> Reply {
     match answer {
-        AtomAnswer::Read(place, left, read) => {
+        Ok((place, left, read)) => {
             let put = replay_wire::taken_with(out, reply, place, left);
             return put_atom(out, put, read, scratch);
         }
-        AtomAnswer::Refused(place, left, refusal) => {
+        Err((place, left, refusal)) => {
             return replay_wire::refused_with(out, reply, place, left, refusal);
         }
     }
@@ -88,11 +88,11 @@ fn update_budget(text: &[u8], cursor: Cursor, out: &mut [u8]) -> Reply {
     let amount = replay_wire::read_word(text, budget.cursor);
     let reply = replay_wire::begin(text, amount.cursor);
     match atom::update_budget(Budget(budget.value), amount.value) {
-        BudgetAnswer::Left(left) => {
+        Ok(left) => {
             let taken = replay_wire::put_word(out, reply, 0);
             return replay_wire::put_word(out, taken, left.0);
         }
-        BudgetAnswer::Refused(refusal) => {
+        Err(refusal) => {
             return replay_wire::refused(out, reply, refusal);
         }
     }

@@ -3,68 +3,66 @@
 #![tactic(auto)]
 
 use replay_wire::{Cursor, Reply};
-use types::{
-    AsF32, AsF64, AsFloat, AsI8, AsI16, AsI32, AsI64, AsU8, AsU16, AsU32, AsU64, AsWide, Integer,
-};
+use types::{Integer, Refusal, Wide};
 
-fn as_i8(x: Integer) -> AsWide {
+fn as_i8(x: Integer) -> Result<Wide, Refusal> {
     match cast::as_i8(x) {
-        AsI8::Value(value) => return AsWide::Value(replay_wire_numbers::of_i8(value)),
-        AsI8::Refused(refusal) => return AsWide::Refused(refusal),
+        Ok(value) => return Ok(replay_wire_numbers::of_i8(value)),
+        Err(refusal) => return Err(refusal),
     }
 }
 
-fn as_i16(x: Integer) -> AsWide {
+fn as_i16(x: Integer) -> Result<Wide, Refusal> {
     match cast::as_i16(x) {
-        AsI16::Value(value) => return AsWide::Value(replay_wire_numbers::of_i16(value)),
-        AsI16::Refused(refusal) => return AsWide::Refused(refusal),
+        Ok(value) => return Ok(replay_wire_numbers::of_i16(value)),
+        Err(refusal) => return Err(refusal),
     }
 }
 
-fn as_i32(x: Integer) -> AsWide {
+fn as_i32(x: Integer) -> Result<Wide, Refusal> {
     match cast::as_i32(x) {
-        AsI32::Value(value) => return AsWide::Value(replay_wire_numbers::of_i32(value)),
-        AsI32::Refused(refusal) => return AsWide::Refused(refusal),
+        Ok(value) => return Ok(replay_wire_numbers::of_i32(value)),
+        Err(refusal) => return Err(refusal),
     }
 }
 
-fn as_i64(x: Integer) -> AsWide {
+fn as_i64(x: Integer) -> Result<Wide, Refusal> {
     match cast::as_i64(x) {
-        AsI64::Value(value) => return AsWide::Value(replay_wire_numbers::of_i64(value)),
-        AsI64::Refused(refusal) => return AsWide::Refused(refusal),
+        Ok(value) => return Ok(replay_wire_numbers::of_i64(value)),
+        Err(refusal) => return Err(refusal),
     }
 }
 
-fn as_u8(x: Integer) -> AsWide {
+fn as_u8(x: Integer) -> Result<Wide, Refusal> {
     match cast::as_u8(x) {
-        AsU8::Value(value) => return AsWide::Value(replay_wire_numbers::unsigned(value as u64)),
-        AsU8::Refused(refusal) => return AsWide::Refused(refusal),
+        Ok(value) => return Ok(replay_wire_numbers::unsigned(value as u64)),
+        Err(refusal) => return Err(refusal),
     }
 }
 
-fn as_u16(x: Integer) -> AsWide {
+fn as_u16(x: Integer) -> Result<Wide, Refusal> {
     match cast::as_u16(x) {
-        AsU16::Value(value) => return AsWide::Value(replay_wire_numbers::unsigned(value as u64)),
-        AsU16::Refused(refusal) => return AsWide::Refused(refusal),
+        Ok(value) => return Ok(replay_wire_numbers::unsigned(value as u64)),
+        Err(refusal) => return Err(refusal),
     }
 }
 
-fn as_u32(x: Integer) -> AsWide {
+fn as_u32(x: Integer) -> Result<Wide, Refusal> {
     match cast::as_u32(x) {
-        AsU32::Value(value) => return AsWide::Value(replay_wire_numbers::unsigned(value as u64)),
-        AsU32::Refused(refusal) => return AsWide::Refused(refusal),
+        Ok(value) => return Ok(replay_wire_numbers::unsigned(value as u64)),
+        Err(refusal) => return Err(refusal),
     }
 }
 
-fn as_u64(x: Integer) -> AsWide {
+fn as_u64(x: Integer) -> Result<Wide, Refusal> {
     match cast::as_u64(x) {
-        AsU64::Value(value) => return AsWide::Value(replay_wire_numbers::unsigned(value)),
-        AsU64::Refused(refusal) => return AsWide::Refused(refusal),
+        Ok(value) => return Ok(replay_wire_numbers::unsigned(value)),
+        Err(refusal) => return Err(refusal),
     }
 }
 
 // The cast of a code from 30 to 39.
-fn as_wide(code: u64, x: Integer) -> AsWide {
+fn as_wide(code: u64, x: Integer) -> Result<Wide, Refusal> {
     match code {
         0x30 => as_i8(x),
         0x31 => as_i16(x),
@@ -81,11 +79,11 @@ fn as_wide(code: u64, x: Integer) -> AsWide {
 
 fn as_f32(out: &mut [u8], reply: Reply, x: Integer) -> Reply {
     match cast::as_f32(x) {
-        AsF32::Value(value) => {
+        Ok(value) => {
             let taken = replay_wire::put_word(out, reply, 0);
             return replay_wire::put_word(out, taken, binary::f32_pattern(value) as u64);
         }
-        AsF32::Refused(refusal) => {
+        Err(refusal) => {
             return replay_wire::refused(out, reply, refusal);
         }
     }
@@ -93,11 +91,11 @@ fn as_f32(out: &mut [u8], reply: Reply, x: Integer) -> Reply {
 
 fn as_f64(out: &mut [u8], reply: Reply, x: Integer) -> Reply {
     match cast::as_f64(x) {
-        AsF64::Value(value) => {
+        Ok(value) => {
             let taken = replay_wire::put_word(out, reply, 0);
             return replay_wire::put_word(out, taken, binary::f64_pattern(value));
         }
-        AsF64::Refused(refusal) => {
+        Err(refusal) => {
             return replay_wire::refused(out, reply, refusal);
         }
     }
@@ -105,11 +103,11 @@ fn as_f64(out: &mut [u8], reply: Reply, x: Integer) -> Reply {
 
 fn as_float(out: &mut [u8], reply: Reply, x: Integer) -> Reply {
     match cast::as_float(x) {
-        AsFloat::Value(value) => {
+        Ok(value) => {
             let taken = replay_wire::put_word(out, reply, 0);
             return replay_wire_numbers::put_float(out, taken, value);
         }
-        AsFloat::Refused(refusal) => {
+        Err(refusal) => {
             return replay_wire::refused(out, reply, refusal);
         }
     }

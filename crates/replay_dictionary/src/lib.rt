@@ -4,35 +4,27 @@
 #![tactic(auto)]
 
 use replay_wire::{Cursor, Reply};
-use types::{Budget, Checked, Place, Places, Ran, Skipped, Tallied, TallyAnswer};
+use types::{Budget, Checked, Place, Places, Ran, Run, Skipped, Tallied, TallyAnswer};
 
 // Puts what a run tells, refused or not: the place, the budget left, the atoms read, where the refused atom starts, and
 // the places of the last atom read.
-fn put_ran(
-    out: &mut [u8],
-    reply: Reply,
-    place: Place,
-    left: Budget,
-    atoms: u64,
-    start: Place,
-    last: Places,
-) -> Reply {
-    let placed = replay_wire::put_place(out, reply, place);
-    let budgeted = replay_wire::put_word(out, placed, left.0);
-    let counted = replay_wire::put_word(out, budgeted, atoms);
+fn put_ran(out: &mut [u8], reply: Reply, run: Run, start: Place) -> Reply {
+    let placed = replay_wire::put_place(out, reply, run.place);
+    let budgeted = replay_wire::put_word(out, placed, run.budget.0);
+    let counted = replay_wire::put_word(out, budgeted, run.atoms);
     let started = replay_wire::put_place(out, counted, start);
-    replay_wire::put_places(out, started, last)
+    replay_wire::put_places(out, started, run.last)
 }
 
 fn put_run(out: &mut [u8], reply: Reply, ran: Ran) -> Reply {
     match ran {
-        Ran::Done(place, left, atoms, last) => {
+        Ok(run) => {
             let taken = replay_wire::put_word(out, reply, 0);
-            return put_ran(out, taken, place, left, atoms, place, last);
+            return put_ran(out, taken, run, run.place);
         }
-        Ran::Stopped(place, left, atoms, last, refusal, start) => {
+        Err((run, refusal, start)) => {
             let numbered = replay_wire::put_word(out, reply, refusal.number());
-            let told = put_ran(out, numbered, place, left, atoms, start, last);
+            let told = put_ran(out, numbered, run, start);
             return replay_wire::put_data(out, told, refusal);
         }
     }
@@ -90,12 +82,12 @@ fn tally(text: &[u8], cursor: Cursor, bytes: &mut [u8], out: &mut [u8]) -> Reply
 
 fn put_step(out: &mut [u8], reply: Reply, skipped: Skipped) -> Reply {
     match skipped {
-        Skipped::Past(after, left, places, string) => {
+        Ok((after, left, places, string)) => {
             let taken = replay_wire::taken_with(out, reply, after, left);
             let told = replay_wire::put_places(out, taken, places);
             return replay_wire::put_word(out, told, string as u64);
         }
-        Skipped::Refused(after, left, refusal) => {
+        Err((after, left, refusal)) => {
             return replay_wire::refused_with(out, reply, after, left, refusal);
         }
     }
@@ -114,10 +106,10 @@ fn step(text: &[u8], cursor: Cursor, bytes: &mut [u8], out: &mut [u8]) -> Reply 
 
 fn put_check(out: &mut [u8], reply: Reply, checked: Checked) -> Reply {
     match checked {
-        Checked::Accepted => {
+        Ok(()) => {
             return replay_wire::put_word(out, reply, 0);
         }
-        Checked::Refused(refusal, start) => {
+        Err((refusal, start)) => {
             return replay_wire::refused_at(out, reply, start, refusal);
         }
     }

@@ -3,16 +3,16 @@
 #![tactic(auto)]
 
 use replay_wire::{Cursor, Reply};
-use types::{AsF32, AsInteger, FloatAnswer, Written};
+use types::{FloatAnswer, Refusal};
 
 // Puts what a float read of that many bytes answered.
 pub fn put_answer(out: &mut [u8], reply: Reply, answer: FloatAnswer, count: u64) -> Reply {
     match answer {
-        FloatAnswer::Read(next, value, bits) => {
+        Ok((next, value, bits)) => {
             let placed = replay_wire::taken_at(out, reply, next);
             return replay_wire_numbers::put_read_float(out, placed, value, count, bits);
         }
-        FloatAnswer::Refused(next, refusal) => {
+        Err((next, refusal)) => {
             return replay_wire::refused_at(out, reply, next, refusal);
         }
     }
@@ -32,7 +32,7 @@ fn read_from(text: &[u8], cursor: Cursor, bytes: &mut [u8], out: &mut [u8]) -> R
 }
 
 // Writes a float by its bits.
-fn write_bits(bytes: &mut [u8], width: u64, bits: u64) -> Written {
+fn write_bits(bytes: &mut [u8], width: u64, bits: u64) -> Result<usize, Refusal> {
     if width == 4 {
         return float::write_f32_bits(bytes, (bits % 0x1_0000_0000) as u32);
     }
@@ -40,7 +40,7 @@ fn write_bits(bytes: &mut [u8], width: u64, bits: u64) -> Written {
 }
 
 // Writes a float as a value; a NaN, whose bits a value doesn't have, by its bits.
-fn write_value(bytes: &mut [u8], width: u64, bits: u64) -> Written {
+fn write_value(bytes: &mut [u8], width: u64, bits: u64) -> Result<usize, Refusal> {
     if replay_wire_numbers::is_nan(width, bits) {
         return write_bits(bytes, width, bits);
     }
@@ -83,14 +83,14 @@ fn as_f32(text: &[u8], cursor: Cursor, out: &mut [u8]) -> Reply {
     let field = replay_wire_numbers::read_float(text, cursor);
     let reply = replay_wire::begin(text, field.cursor);
     match float::as_f32(replay_wire_numbers::float_of(field.width, field.bits)) {
-        AsF32::Value(value) => {
+        Ok(value) => {
             let taken = replay_wire::put_word(out, reply, 0);
             if value == value {
                 return replay_wire::put_word(out, taken, binary::f32_pattern(value) as u64);
             }
             return replay_wire::put_word(out, taken, field.bits);
         }
-        AsF32::Refused(refusal) => {
+        Err(refusal) => {
             return replay_wire::refused(out, reply, refusal);
         }
     }
@@ -120,11 +120,11 @@ fn as_integer(text: &[u8], cursor: Cursor, out: &mut [u8]) -> Reply {
     let field = replay_wire_numbers::read_float(text, cursor);
     let reply = replay_wire::begin(text, field.cursor);
     match float_cast::as_integer(replay_wire_numbers::float_of(field.width, field.bits)) {
-        AsInteger::Value(value) => {
+        Ok(value) => {
             let taken = replay_wire::put_word(out, reply, 0);
             return replay_wire_numbers::put_integer(out, taken, value);
         }
-        AsInteger::Refused(refusal) => {
+        Err(refusal) => {
             return replay_wire::refused(out, reply, refusal);
         }
     }

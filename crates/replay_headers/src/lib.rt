@@ -3,17 +3,17 @@
 #![tactic(auto)]
 
 use replay_wire::{Asked, Cursor, Reply};
-use types::{HeaderAnswer, Kind, KindAnswer, Special, SpecialAnswer, VersionAnswer};
+use types::{HeaderAnswer, Kind, Special, VersionAnswer};
 
 fn kind_from_u8(text: &[u8], cursor: Cursor, out: &mut [u8]) -> Reply {
     let code = replay_wire::read_byte(text, cursor);
     let reply = replay_wire::begin(text, code.cursor);
     match Kind::from_u8(code.value) {
-        KindAnswer::Known(kind) => {
+        Ok(kind) => {
             let put = replay_wire::put_word(out, reply, 0);
             return replay_wire::put_kind(out, put, kind);
         }
-        KindAnswer::Refused(refusal) => {
+        Err(refusal) => {
             return replay_wire::refused(out, reply, refusal);
         }
     }
@@ -23,11 +23,11 @@ fn special_try_from(text: &[u8], cursor: Cursor, out: &mut [u8]) -> Reply {
     let value = replay_wire::read_word(text, cursor);
     let reply = replay_wire::begin(text, value.cursor);
     match Special::try_from(value.value) {
-        SpecialAnswer::Known(special) => {
+        Ok(special) => {
             let put = replay_wire::put_word(out, reply, 0);
             return replay_wire::put_word(out, put, special.code());
         }
-        SpecialAnswer::Refused(refusal) => {
+        Err(refusal) => {
             return replay_wire::refused(out, reply, refusal);
         }
     }
@@ -59,12 +59,12 @@ fn read_atom_header(text: &[u8], cursor: Cursor, source: &mut [u8], out: &mut [u
     let reply = replay_wire::begin(text, asked.cursor);
     let count = asked.count;
     match asked_header(&source[0..count], asked) {
-        HeaderAnswer::Read(place, kind, arg) => {
+        Ok((place, kind, arg)) => {
             let placed = replay_wire::taken_at(out, reply, place);
             let put = replay_wire::put_kind(out, placed, kind);
             return replay_wire::put_word(out, put, arg);
         }
-        HeaderAnswer::Refused(place, refusal) => {
+        Err((place, refusal)) => {
             return replay_wire::refused_at(out, reply, place, refusal);
         }
     }
@@ -75,11 +75,11 @@ fn read_header(text: &[u8], cursor: Cursor, source: &mut [u8], out: &mut [u8]) -
     let reply = replay_wire::begin(text, asked.cursor);
     let count = asked.count;
     match asked_version(&source[0..count], asked) {
-        VersionAnswer::Read(place, version) => {
+        Ok((place, version)) => {
             let placed = replay_wire::taken_at(out, reply, place);
             return replay_wire::put_word(out, placed, version as u64);
         }
-        VersionAnswer::Refused(place, refusal) => {
+        Err((place, refusal)) => {
             return replay_wire::refused_at(out, reply, place, refusal);
         }
     }

@@ -8,11 +8,11 @@ use types::IntegerAnswer;
 // Puts what an integer read answered.
 pub fn put_answer(out: &mut [u8], reply: Reply, answer: IntegerAnswer) -> Reply {
     match answer {
-        IntegerAnswer::Read(next, value) => {
+        Ok((next, value)) => {
             let placed = replay_wire::taken_at(out, reply, next);
             return replay_wire_numbers::put_integer(out, placed, value);
         }
-        IntegerAnswer::Refused(next, refusal) => {
+        Err((next, refusal)) => {
             return replay_wire::refused_at(out, reply, next, refusal);
         }
     }

@@ -90,8 +90,8 @@ fn read_wanted(text: &[u8], cursor: Cursor) -> Wanted {
 
 fn budget_after(answer: AtomAnswer) -> Budget {
     match answer {
-        AtomAnswer::Read(_, left, _) => left,
-        AtomAnswer::Refused(_, left, _) => left,
+        Ok((_, left, _)) => left,
+        Err((_, left, _)) => left,
     }
 }
 

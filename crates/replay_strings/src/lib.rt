@@ -8,11 +8,11 @@ use types::{BytesAnswer, Place, RawAnswer, Way};
 // Puts what a string read answered.
 pub fn put_answer(out: &mut [u8], reply: Reply, answer: BytesAnswer, scratch: &[u8]) -> Reply {
     match answer {
-        BytesAnswer::Read(next, mark) => {
+        Ok((next, mark)) => {
             let placed = replay_wire::taken_at(out, reply, next);
             return replay_wire::put_string(out, placed, mark, scratch);
         }
-        BytesAnswer::Refused(next, refusal) => {
+        Err((next, refusal)) => {
             return replay_wire::refused_at(out, reply, next, refusal);
         }
     }
@@ -39,14 +39,14 @@ fn buffered_read_bytes(
 // Puts what a raw read answered, with those bytes of the buffer that the request asks for.
 fn put_raw(out: &mut [u8], reply: Reply, answer: RawAnswer, buffer: &[u8], whole: bool) -> Reply {
     match answer {
-        RawAnswer::Read(next, count) => {
+        Ok((next, count)) => {
             let placed = replay_wire::taken_at(out, reply, next);
             if whole {
                 return replay_wire::put_bytes(out, placed, buffer);
             }
             return replay_wire::put_bytes(out, placed, replay_wire::first(buffer, count));
         }
-        RawAnswer::Refused(next, refusal) => {
+        Err((next, refusal)) => {
             return replay_wire::refused_at(out, reply, next, refusal);
         }
     }

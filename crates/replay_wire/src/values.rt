@@ -3,7 +3,7 @@ ghost use Rattle.std.specs.Prelude.{◌≤◌, length};
 
 use crate::fields::{Cursor, read_bytes, read_word};
 use crate::put::{Reply, first, put_bytes, put_word};
-use types::{Budget, Kind, KindAnswer, Mark, Place, Places, Refusal, Way, Written};
+use types::{Budget, Kind, Mark, Place, Places, Refusal, Way};
 
 // A word below 256.
 #[derive(Clone, Copy)]
@@ -47,10 +47,10 @@ pub fn read_kind(text: &[u8], cursor: Cursor) -> KindField {
     let code = read_byte(text, cursor);
     let next = code.cursor;
     match Kind::from_u8(code.value) {
-        KindAnswer::Known(kind) => {
+        Ok(kind) => {
             return KindField { cursor: next, kind };
         }
-        KindAnswer::Refused(_) => {
+        Err(_) => {
             return KindField {
                 cursor: Cursor {
                     at: next.at,
@@ -205,13 +205,18 @@ pub fn refused_with(
 }
 
 // Puts what a writer answered, with the bytes that it wrote into a buffer.
-pub fn put_written(out: &mut [u8], reply: Reply, written: Written, bytes: &[u8]) -> Reply {
+pub fn put_written(
+    out: &mut [u8],
+    reply: Reply,
+    written: Result<usize, Refusal>,
+    bytes: &[u8],
+) -> Reply {
     match written {
-        Written::Count(count) => {
+        Ok(count) => {
             let put = put_word(out, reply, 0);
             return put_bytes(out, put, first(bytes, count));
         }
-        Written::Refused(refusal) => {
+        Err(refusal) => {
             return refused(out, reply, refusal);
         }
     }

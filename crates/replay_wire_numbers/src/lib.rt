@@ -3,7 +3,7 @@
 #![tactic(auto)]
 
 use replay_wire::{Cursor, Reply};
-use types::{AsWide, Float, Integer, Wide};
+use types::{Float, Integer, Refusal, Wide};
 
 // Two words, the low one first.
 #[derive(Clone, Copy)]
@@ -209,13 +209,13 @@ pub fn put_integer(out: &mut [u8], reply: Reply, x: Integer) -> Reply {
 }
 
 // Puts what a cast answered, its value as a wide.
-pub fn put_cast(out: &mut [u8], reply: Reply, answer: AsWide) -> Reply {
+pub fn put_cast(out: &mut [u8], reply: Reply, answer: Result<Wide, Refusal>) -> Reply {
     match answer {
-        AsWide::Value(value) => {
+        Ok(value) => {
             let taken = replay_wire::put_word(out, reply, 0);
             return put_wide(out, taken, value);
         }
-        AsWide::Refused(refusal) => {
+        Err(refusal) => {
             return replay_wire::refused(out, reply, refusal);
         }
     }

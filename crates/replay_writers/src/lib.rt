@@ -3,7 +3,7 @@
 #![tactic(auto)]
 
 use replay_wire::{Cursor, Reply};
-use types::{Integer, Special, SpecialAnswer, Written};
+use types::{Integer, Refusal, Special};
 
 // The variant that holds the argument of a writer, and 10 of a code that is none's.
 fn variant_of(code: u64) -> u64 {
@@ -23,7 +23,7 @@ fn variant_of(code: u64) -> u64 {
 }
 
 // Writes an argument by the writer of its type, of 24 or 48 bits where that is asked for.
-fn write_number(bytes: &mut [u8], x: Integer, narrow: bool) -> Written {
+fn write_number(bytes: &mut [u8], x: Integer, narrow: bool) -> Result<usize, Refusal> {
     match x {
         Integer::I8(value) => return writers::write_i8(bytes, value),
         Integer::I16(value) => return writers::write_i16(bytes, value),
@@ -88,11 +88,11 @@ fn write_special(text: &[u8], cursor: Cursor, bytes: &mut [u8], out: &mut [u8]) 
     let value = replay_wire::read_word(text, cursor);
     let reply = replay_wire::begin(text, value.cursor);
     match Special::try_from(value.value) {
-        SpecialAnswer::Known(special) => {
+        Ok(special) => {
             let written = writers::write_special(bytes, special);
             return replay_wire::put_written(out, reply, written, bytes);
         }
-        SpecialAnswer::Refused(_) => {
+        Err(_) => {
             return replay_wire::none();
         }
     }
@@ -123,7 +123,7 @@ fn write_bytes(
 }
 
 // Writes what a writer without an argument writes.
-fn constant(bytes: &mut [u8], code: u64) -> Written {
+fn constant(bytes: &mut [u8], code: u64) -> Result<usize, Refusal> {
     match code {
         0x71 => return writers::write_none(bytes),
         0x72 => return writers::write_unit(bytes),

@@ -1,5 +1,6 @@
 -- The ends of the report's functions: what the tally and the signature's reader answered, and what is found of the
 -- file.
+use Rattle.std.specs.Prelude.{Ok, Err}
 use mathlib.Core.Path.{◌≡◌, ◌∙◌, sym, ap, subst}
 use mathlib.Core.List.{List}
 use Prim.Native.Nat.{ℕ, ◌+◌, ◌-◌, ◌*◌, ◌^◌, ◌≤◌, ◌<◌}
@@ -10,6 +11,8 @@ use lib.ListN.{length, take, drop, length-drop}
 use lib.Seq.{take_all}
 use mir.Syntax.{w64}
 use mir.Val.{Fits}
+use Rattle.report.specs.Reports.{Report}
+use Rattle.types.specs.Answers.{VersionAnswer}
 use Rattle.types.specs.declared.Way.TheVariants as W
 use Rattle.types.specs.declared.Place.{Place}
 use Rattle.types.specs.declared.Places.{Places}
@@ -18,13 +21,9 @@ use Rattle.types.specs.declared.Refusal.TheVariants as R
 use Rattle.types.specs.declared.Tallied.{Tallied}
 use Rattle.types.specs.declared.TallyAnswer.{TallyAnswer}
 use Rattle.types.specs.declared.TallyAnswer.TheVariants as TA
-use Rattle.types.specs.declared.VersionAnswer.{VersionAnswer}
-use Rattle.types.specs.declared.VersionAnswer.TheVariants as VA
 use Rattle.header.specs.Signature.{version_read}
 use Rattle.dictionary.specs.Runs.{tally_all}
 use Rattle.report.specs.Reports.{after_signature, counted, report_of}
-use Rattle.report.specs.declared.Report.{Report}
-use Rattle.report.specs.declared.Report.TheVariants as RP
 use Rattle.report.proofs.Places.{stop_at, stop_within, is_read, read_long}
 
 -- what follows the signature was tallied, as it is lent
@@ -35,7 +34,7 @@ module _ (file : List ℕ) (version : ℕ) (answer : TallyAnswer)
 
   -- to the end
   pub all_tallied : (last : Places) (t : Tallied) → answer ≡ TA.Done last t →
-      RP.Counted version (length file - 4) t ≡ counted file version (tally_all (after_signature file))
+      Ok (version, length file - 4, t) ≡ counted file version (tally_all (after_signature file))
   all_tallied last t d = cc (found, length-drop 4 file)
 
   -- up to an atom that was refused, which starts within the file
@@ -49,25 +48,25 @@ module _ (file : List ℕ) (version : ℕ) (answer : TallyAnswer)
         omega arith
 
     pub atom_refused :
-        RP.Refused why (record { 0 = 4 + start.0 }) ≡ counted file version (tally_all (after_signature file))
+        Err (why, record { 0 = 4 + start.0 }) ≡ counted file version (tally_all (after_signature file))
     atom_refused = cc found
 
   -- not at all
   pub all_refused : (last : Places) (why : Refusal) → answer ≡ TA.Refused last why →
-      RP.Refused why (record { 0 = 0 }) ≡ counted file version (tally_all (after_signature file))
+      Err (why, record { 0 = 0 }) ≡ counted file version (tally_all (after_signature file))
   all_refused last why d = cc found
 
 pub ruleset count_ends = (all_tallied, start_fits, atom_refused, all_refused, rules)
 
 -- the file is too long
-pub too_long : (file : List ℕ) → 65_536 < length file → RP.Refused R.TooLong (record { 0 = 0 }) ≡ report_of file
+pub too_long : (file : List ℕ) → 65_536 < length file → Err (R.TooLong, record { 0 = 0 }) ≡ report_of file
 unfolding report_of
 too_long file h = simp (lt-ltb _ _ h)
 
 -- it is not, and its signature was looked at
 module _ (file : List ℕ) (answer : VersionAnswer) (place : Place) (e : answer ≡ version_read W.ExactLent file 0) where
   -- it was read: it has its four bytes, and the rest is tallied
-  module _ (version : ℕ) (d : answer ≡ VA.Read place version) where
+  module _ (version : ℕ) (d : answer ≡ Ok (place, version)) where
     pub has_signature : 4 ≤ length file
     has_signature = read_long file (ap is_read (sym e ∙ d))
 
@@ -77,8 +76,8 @@ module _ (file : List ℕ) (answer : VersionAnswer) (place : Place) (e : answer 
     file_counted r h c = cc (le-ltb 65_536 (length file) h)
 
   -- it was refused
-  pub signature_refused : (why : Refusal) → length file ≤ 65_536 → answer ≡ VA.Refused place why →
-      RP.Refused why (record { 0 = 0 }) ≡ report_of file
+  pub signature_refused : (why : Refusal) → length file ≤ 65_536 → answer ≡ Err (place, why) →
+      Err (why, record { 0 = 0 }) ≡ report_of file
   unfolding report_of
   signature_refused why h d = cc (le-ltb 65_536 (length file) h)
 

@@ -1,5 +1,6 @@
 -- The places that a report rests on: a refused atom starts within the bytes that are tallied, and a file whose
 -- signature was read has its four bytes.
+use Rattle.std.specs.Prelude.{Ok, Err}
 use mathlib.Core.Path.{◌≡◌, refl, ◌∙◌, sym}
 use mathlib.Core.Bool.{Bool, true, false, false≢true}
 use mathlib.Core.List.{List}
@@ -8,6 +9,7 @@ use native.Mathlib.Omega.{arith}
 use lib.Dec.{ltb, leb}
 use lib.ListN.{length}
 use borrow.Author.Tests.{ltb-true, leb-true, leb-false, le-ltb, lt-leb}
+use Rattle.types.specs.Answers.{Skipped, VersionAnswer}
 use Rattle.types.specs.Choice.{pick}
 use Rattle.types.specs.Counters.{no_places}
 use Rattle.types.specs.declared.Way.TheVariants as W
@@ -15,13 +17,9 @@ use Rattle.types.specs.declared.Place.{Place}
 use Rattle.types.specs.declared.Places.{Places}
 use Rattle.types.specs.declared.Budget.{Budget}
 use Rattle.types.specs.declared.Refusal.TheVariants as R
-use Rattle.types.specs.declared.Skipped.{Skipped}
-use Rattle.types.specs.declared.Skipped.TheVariants as SK
 use Rattle.types.specs.declared.Tallied.{Tallied}
 use Rattle.types.specs.declared.TallyAnswer.{TallyAnswer}
 use Rattle.types.specs.declared.TallyAnswer.TheVariants as TA
-use Rattle.types.specs.declared.VersionAnswer.{VersionAnswer}
-use Rattle.types.specs.declared.VersionAnswer.TheVariants as VA
 use Rattle.header.specs.Signature.{version_read, version_from}
 use Rattle.dictionary.specs.Steps.{skipped}
 use Rattle.dictionary.specs.Runs.{tally_all, tally_from, after_step, added, nothing, unlimited, most_bytes}
@@ -37,10 +35,10 @@ stop_step :
     (d : Tallied) →
     ltb at (length s) ≡ t → ((p : Place) (b : Budget) (q : Places) (f : Bool) → stop_at (on p b q f) ≤ length s) →
     stop_at (pick t (after_step k on (λ r. TA.Stopped last r (record { 0 = at }))) (TA.Done last d)) ≤ length s
-stop_step s at on (SK.Past p b q f) true last d e h = h p b q f
-stop_step s at on (SK.Refused p b r) true last d e h = let l : at < length s = ltb-true at (length s) e in omega arith
-stop_step s at on (SK.Past p b q f) false last d e h = omega arith
-stop_step s at on (SK.Refused p b r) false last d e h = omega arith
+stop_step s at on (Ok (p, b, q, f)) true last d e h = h p b q f
+stop_step s at on (Err (p, b, r)) true last d e h = let l : at < length s = ltb-true at (length s) e in omega arith
+stop_step s at on (Ok (p, b, q, f)) false last d e h = omega arith
+stop_step s at on (Err (p, b, r)) false last d e h = omega arith
 
 stop_from : (fuel : ℕ) (s : List ℕ) (at : ℕ) (t : Tallied) (last : Places) →
     stop_at (tally_from fuel s at t last) ≤ length s
@@ -67,8 +65,8 @@ stop_within s = stop_all s (ltb most_bytes (length s))
 
 -- whether a signature was read
 abbrev pub is_read : VersionAnswer → Bool
-is_read (VA.Read p v) = true
-is_read (VA.Refused p r) = false
+is_read (Ok (p, v)) = true
+is_read (Err (p, r)) = false
 
 short_unread : (s : List ℕ) → length s < 4 → is_read (version_read W.ExactLent s 0) ≡ false
 unfolding version_from

@@ -10,11 +10,7 @@ use types::{Place, Refusal, Tallied, TallyAnswer, VersionAnswer, Way};
 
 // What is found of a file: its version, how many bytes follow the signature and their tally; of a refused file the
 // refusal, and where the refused atom starts in the file.
-#[derive(Clone, Copy)]
-pub enum Report {
-    Counted(u8, usize, Tallied),
-    Refused(Refusal, Place),
-}
+pub type Report = Result<(u8, usize, Tallied), (Refusal, Place)>;
 
 // Tallies what follows the signature, whose four bytes the file has.
 fn count(file: &[u8], version: u8) -> Report
@@ -23,12 +19,12 @@ fn count(file: &[u8], version: u8) -> Report
 {
     match dictionary::tally(&file[4..]) {
         TallyAnswer::Done(_, tallied) => {
-            return Report::Counted(version, file.len() - 4, tallied);
+            return Ok((version, file.len() - 4, tallied));
         }
         TallyAnswer::Stopped(_, refusal, start) => {
-            return Report::Refused(refusal, Place(4 + start.0));
+            return Err((refusal, Place(4 + start.0)));
         }
-        TallyAnswer::Refused(_, refusal) => return Report::Refused(refusal, Place(0)),
+        TallyAnswer::Refused(_, refusal) => return Err((refusal, Place(0))),
     }
 }
 
@@ -37,10 +33,10 @@ pub fn judge(file: &[u8]) -> Report
     ensures { result ≡ report_of file.now }
 {
     if 65_536 < file.len() {
-        return Report::Refused(Refusal::TooLong, Place(0));
+        return Err((Refusal::TooLong, Place(0)));
     }
     match header::read_header_by(file, Place(0), Way::ExactLent) {
-        VersionAnswer::Read(_, version) => return count(file, version),
-        VersionAnswer::Refused(_, refusal) => return Report::Refused(refusal, Place(0)),
+        Ok((_, version)) => return count(file, version),
+        Err((_, refusal)) => return Err((refusal, Place(0))),
     }
 }

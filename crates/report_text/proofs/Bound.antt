@@ -1,16 +1,16 @@
 -- HOW LONG THE TEXT IS: of every file at most 79 bytes, so that the program's buffer has its room. The numbers of a
 -- file that was tallied are bounded by its bytes, which demand 3 shows of a list of atoms.
+use Rattle.std.specs.Prelude.{Ok, Err}
 use mathlib.Core.Path.{◌≡◌, refl, ◌∙◌, sym, ap, subst}
-use mathlib.Core.Bool.{Bool, true, false, false≢true}
+use mathlib.Core.Bool.{Bool, true, false}
 use mathlib.Core.List.{List, ◌++◌}
 use mathlib.Core.Logic.{⊎_elim}
 use Prim.Native.Nat.{ℕ, suc, ◌+◌, ◌%◌, ◌^◌, ◌≤◌, ◌<◌}
 use native.Mathlib.Omega.{arith}
 use lib.Dec.{ltb, leb}
-use lib.ListN.{length, take, drop, length-append, length-drop}
-use lib.Seq.{length-take-le}
-use borrow.Author.Rules.{rules}
+use lib.ListN.{length, drop, length-append, length-drop}
 use borrow.Author.Tests.{ltb-false}
+use Rattle.types.specs.Answers.{VersionAnswer}
 use Rattle.types.specs.Choice.{pick}
 use Rattle.types.specs.Counters.{place_in}
 use Rattle.types.specs.Refusals.{refusal_number}
@@ -22,12 +22,8 @@ use Rattle.types.specs.declared.Refusal.TheVariants as R
 use Rattle.types.specs.declared.Tallied.{Tallied}
 use Rattle.types.specs.declared.TallyAnswer.{TallyAnswer}
 use Rattle.types.specs.declared.TallyAnswer.TheVariants as TA
-use Rattle.types.specs.declared.VersionAnswer.{VersionAnswer}
-use Rattle.types.specs.declared.VersionAnswer.TheVariants as VA
-use Rattle.types.specs.declared.Written.{Written}
-use Rattle.types.specs.declared.Written.TheVariants as WR
-use Rattle.lent.specs.Lent.{written_answer, written_content}
-use Rattle.lent.proofs.Stores.{answer_room, content_room}
+use Rattle.lent.specs.Lent.{written_answer}
+use Rattle.lent.proofs.Stores.{answer_room}
 use Rattle.header.specs.Header.{header_kind, header_length}
 use Rattle.header.specs.Signature.{version_read, version_from, judged, every_bit, big_endian, signature}
 use Rattle.letters.specs.Letters.{letters}
@@ -38,7 +34,6 @@ use Rattle.dictionary.specs.Prices.{priced, Made, Broken}
 use Rattle.dictionary.proofs.Price.{atoms_most, price_body, tally_priced, tally_broken}
 use Rattle.dictionary.proofs.Price as price
 use Rattle.report.specs.Reports.{report_of, report_after, counted, after_signature, most_file_bytes}
-use Rattle.report.specs.declared.Report.TheVariants as RP
 use Rattle.report_text.specs.Texts.{ascii, decimal, line, tally_text, counted_text, refused_text, report_text}
 use Rattle.report_text.proofs.Decimals.{decimal-most}
 
@@ -150,16 +145,16 @@ tally_within s h =
 
 -- the version is a byte
 abbrev version_of : VersionAnswer → ℕ
-version_of (VA.Read place version) = version
-version_of (VA.Refused place r) = 0
+version_of (Ok (place, version)) = version
+version_of (Err (place, r)) = 0
 
 taken_small : (word : ℕ) (place : Place) (t : Bool) →
-    version_of (pick t (VA.Read place (word % 256)) (VA.Refused place R.IncompatibleVersion)) < 256
+    version_of (pick t (Ok (place, word % 256)) (Err (place, R.IncompatibleVersion))) < 256
 taken_small word place true = omega arith
 taken_small word place false = omega arith
 
 whole_small : (word : ℕ) (place end : Place) (t : Bool) →
-    version_of (pick t (judged word place) (VA.Refused end R.Eof)) < 256
+    version_of (pick t (judged word place) (Err (end, R.Eof))) < 256
 whole_small word place end true = taken_small word place (every_bit 32 signature word)
 whole_small word place end false = omega arith
 
@@ -180,14 +175,14 @@ answered_most file version (TA.Refused last r) h v w = refused_most r 0 (omega a
 
 signed_most : (file : List ℕ) (a : VersionAnswer) → length file ≤ 65_536 → version_of a < 256 →
     length (report_text (report_after file a)) ≤ 79
-signed_most file (VA.Read place version) h v =
+signed_most file (Ok (place, version)) h v =
     answered_most file version (tally_all (after_signature file)) h v
     (tally_within (after_signature file) (omega (arith, length-drop 4 file)))
-signed_most file (VA.Refused place r) h v = refused_most r 0 (omega arith)
+signed_most file (Err (place, r)) h v = refused_most r 0 (omega arith)
 
 judged_most : (file : List ℕ) (t : Bool) → ltb most_file_bytes (length file) ≡ t →
     length (report_text
-    (pick t (RP.Refused R.TooLong (record { 0 = 0 })) (report_after file (version_read W.ExactLent file 0)))) ≤ 79
+    (pick t (Err (R.TooLong, record { 0 = 0 })) (report_after file (version_read W.ExactLent file 0)))) ≤ 79
 judged_most file true e = refused_most R.TooLong 0 (omega arith)
 judged_most file false e =
     signed_most file (version_read W.ExactLent file 0) (ltb-false most_file_bytes (length file) e) (version_small file)
@@ -199,33 +194,5 @@ text_most file = judged_most file (ltb most_file_bytes (length file)) refl
 
 -- so that a buffer of that length has its room
 pub text_room : (file old : List ℕ) → 79 ≤ length old →
-    written_answer (report_text (report_of file)) old ≡ WR.Count (length (report_text (report_of file)))
+    written_answer (report_text (report_of file)) old ≡ Ok (length (report_text (report_of file)))
 text_room file old h = let m = text_most file in answer_room (report_text (report_of file)) old (omega arith)
-
--- there it is never refused, and stands whole
-module _ (file old : List ℕ) (answer : Written) (room : length old ≡ 79)
-    (e : answer ≡ written_answer (report_text (report_of file)) old) where
-  whole : answer ≡ WR.Count (length (report_text (report_of file)))
-  whole = e ∙ text_room file old (omega arith)
-
-  module _ (n : ℕ) (d : answer ≡ WR.Count n) where
-    pub text_counted : n ≡ length (report_text (report_of file))
-    text_counted = let w = whole in cc
-
-    pub text_within : (new : List ℕ) → new ≡ written_content (report_text (report_of file)) old → n ≤ length new
-    text_within new w =
-        let text : List ℕ = report_text (report_of file) in
-        let m = text_most file in
-        let c = text_counted in
-        let l : length new ≡ length text + length (drop (length text) old) =
-        ap length (w ∙ content_room text old (omega arith)) ∙ length-append text (drop (length text) old)
-        in
-        omega arith
-
-    pub text_front : (new : List ℕ) → new ≡ written_content (report_text (report_of file)) old → n ≡ length (take n new)
-    text_front new w = sym (length-take-le n new (text_within new w))
-
-  pub never_refused : (why : Refusal) → answer ≡ WR.Refused why → ⊥
-  never_refused why d = let w = whole in false≢true cc
-
-pub ruleset room_ends = (text_counted, text_within, text_front, never_refused, rules)

@@ -1,13 +1,12 @@
 -- The text that the tally program prints of a file. Document 01, "Tally".
-use Rattle.std.specs.Prelude.{ℕ, zero, suc, ◌+◌, ◌/◌, ◌%◌, List, [], ◌∷◌, ◌++◌, ltb}
+use Rattle.std.specs.Prelude.{ℕ, zero, suc, ◌+◌, ◌/◌, ◌%◌, List, [], ◌∷◌, ◌++◌, ltb, Ok, Err}
 use Prim.Native.Char.{code}
 use Prim.Native.String.{String, [] as []ˢ, ◌∷◌ as ◌∷ˢ◌}
+use Rattle.report.specs.Reports.{Report}
 use Rattle.types.specs.Choice.{pick}
 use Rattle.types.specs.Refusals.{refusal_number}
 use Rattle.types.specs.declared.Refusal.{Refusal}
 use Rattle.types.specs.declared.Tallied.{Tallied}
-use Rattle.report.specs.declared.Report.{Report}
-use Rattle.report.specs.declared.Report.TheVariants as RP
 
 -- the bytes of a text in ASCII
 abbrev pub ascii : String → List ℕ
@@ -53,5 +52,5 @@ refused_text r at = line (ascii "ok=") 0 ++ (line (ascii "refusal=") (refusal_nu
 
 -- THE TEXT of what is found of a file
 abbrev pub report_text : Report → List ℕ
-report_text (RP.Counted version bytes t) = counted_text version bytes t
-report_text (RP.Refused r start) = refused_text r start.0
+report_text (Ok (version, bytes, t)) = counted_text version bytes t
+report_text (Err (r, start)) = refused_text r start.0

@@ -1,5 +1,6 @@
 -- WHAT THE CHECK ANSWERS, of every list: an accepted one is accepted, every other one is refused at its first atom that
 -- is refused, with that one's refusal. Over bytes alone; what the step does at an atom is `dictionary.Wholes`.
+use Rattle.std.specs.Prelude.{Ok, Err}
 use mathlib.Core.Path.{◌≡◌, refl, ◌∙◌, sym, ap, subst}
 use mathlib.Core.Bool.{Bool, true, false, false≢true}
 use mathlib.Core.List.{List, [], ◌∷◌, ◌++◌, append_assoc, append-nil}
@@ -10,7 +11,6 @@ use lib.ListN.{length, take, drop, length-append}
 use lib.Seq.{drop-append_seam, take_at}
 use Rattle.types.specs.declared.Refusal.{Refusal}
 use Rattle.types.specs.declared.Refusal.TheVariants as R
-use Rattle.types.specs.declared.Checked.TheVariants as C
 use Rattle.dictionary.specs.Wholes.{IsAtom, Atoms}
 use Rattle.dictionary.specs.Wholes as Wholes
 use Rattle.dictionary.specs.Prices.{Made, Broken}
@@ -52,7 +52,7 @@ check_over s (Wholes.more {atom} {rest} {atoms} w r) ok after fuel left at end f
     (atom_next s at within atom (rest ++ after) there w)
 
 -- ACCEPTED
-pub accepted_answer : (s : List ℕ) (atoms : List (List ℕ)) → Accepted s atoms → check_all s ≡ C.Accepted
+pub accepted_answer : (s : List ℕ) (atoms : List (List ℕ)) → Accepted s atoms → check_all s ≡ (Ok tt)
 accepted_answer s atoms a =
     let most = Price.atoms_most a.wholes in
     let e : length s ≡ 0 + length s = omega arith in
@@ -82,7 +82,7 @@ module _ (s front rest : List ℕ) (atoms : List (List ℕ)) (a : Accepted front
         (omega arith) end (omega arith) e
 
     stopped : (why : Refusal) → Unfit rest why →
-        check_from (suc (length s - length atoms)) s (length front) ≡ C.Refused why (record { 0 = length front })
+        check_from (suc (length s - length atoms)) s (length front) ≡ Err (why, record { 0 = length front })
     stopped why (Checks.spoilt bad) =
         let r = spoilt_bars rest unlimited why bad (asked_word rest) in
         let n = size in
@@ -95,11 +95,11 @@ module _ (s front rest : List ℕ) (atoms : List (List ℕ)) (a : Accepted front
         (atom_past s (length front) within atom later here w (record { 0 = unlimited }) (price_word atom))
         (ap shortest (here_bytes s (length front) atom later here) ∙ long)
 
-    pub refused_at : (why : Refusal) → Unfit rest why → check_all s ≡ C.Refused why (record { 0 = length front })
+    pub refused_at : (why : Refusal) → Unfit rest why → check_all s ≡ Err (why, record { 0 = length front })
     refused_at why bad = up_to ∙ stopped why bad
 
 pub refused_answer : (s : List ℕ) (r : Refused s) →
-    check_all s ≡ C.Refused r.why (record { 0 = length r.front_bytes })
+    check_all s ≡ Err (r.why, record { 0 = length r.front_bytes })
 refused_answer s r =
     refused_at s r.front_bytes r.rest r.atoms r.accepted r.joined r.some r.why r.unfit
 
@@ -184,8 +184,8 @@ either s = ⊎_elim made broken (Price.judged s)
         (λ bad. inr (subst Refused (sym b.joined) bad)) (scanned b.wholes b.rest)
 
 -- so an answer says which
-pub answer_accepted : (s : List ℕ) → check_all s ≡ C.Accepted → (atoms : List (List ℕ)) × Accepted s atoms
+pub answer_accepted : (s : List ℕ) → check_all s ≡ (Ok tt) → (atoms : List (List ℕ)) × Accepted s atoms
 answer_accepted s e = ⊎_elim (λ a. a) (λ r. absurd (differ (refused_answer s r))) (either s)
   where
-    differ : {why : Refusal} {at : ℕ} → check_all s ≡ C.Refused why (record { 0 = at }) → ⊥
+    differ : {why : Refusal} {at : ℕ} → check_all s ≡ Err (why, record { 0 = at }) → ⊥
     differ q = let x = sym e ∙ q in false≢true cc

@@ -1,7 +1,9 @@
 -- The ends of the functions that judge a number of a known count: what each arm answers, by the count that led to it.
 -- Rests on the bounds of `Counts` and on `Floats`.
+use Rattle.std.specs.Prelude.{Option, Some, None}
+use Rattle.std.specs.Option.{is_some}
 use mathlib.Core.Path.{◌≡◌, refl, ◌∙◌, sym, ap}
-use mathlib.Core.Bool.{Bool, true, false, not, ◌&&◌}
+use mathlib.Core.Bool.{Bool, true, false, not, ◌&&◌, false≢true}
 use mathlib.Core.List.{List}
 use Prim.Native.Nat.{ℕ, suc, ◌+◌, ◌-◌, ◌*◌, ◌/◌, ◌^◌, ◌≤◌, ◌<◌}
 use native.Mathlib.Omega.{arith}
@@ -21,12 +23,7 @@ use Rattle.little.proofs.At.{number_lt, number_add}
 use Rattle.integer.proofs.Counts.{allowed_bounds}
 use Rattle.integer.proofs.Arms.{NotSmaller, sixteen_there}
 use Rattle.binary.specs.Formats.{single, double, half, meaning}
-use Rattle.binary.specs.Conversions.{narrowed, answer16, answer32}
-use Rattle.binary.specs.declared.Narrowed16.{Narrowed16}
-use Rattle.binary.specs.declared.Narrowed16.TheVariants as N16
-use Rattle.binary.specs.declared.Narrowed32.{Narrowed32}
-use Rattle.binary.specs.declared.Narrowed32.TheVariants as N32
-use Rattle.binary.proofs.Laws.{kept16, lost16, kept32, lost32}
+use Rattle.binary.specs.Conversions.{narrowed}
 use Rattle.float.specs.Floats.{layout_at}
 use Rattle.float.proofs.Counts.{allowed_last}
 use Rattle.float.proofs.Ends.{eight_there}
@@ -38,13 +35,8 @@ use Rattle.shortest.proofs.Floats.{is_lost, single-fewest, double-fewest, half-f
 
 -- ---- a number from one to another
 module _ (low number high : ℕ) where
-  pub from_low : low ≤ number → leb number high ≡ (leb low number && leb number high)
-  from_low h = rw (le-leb low number h) refl
-
   pub below_low : number < low → false ≡ (leb low number && leb number high)
   below_low h = rw (lt-leb low number h) refl
-
-pub ruleset between_ends = (from_low, below_low, rules)
 
 -- ---- two halves of 16 bytes
 
@@ -204,24 +196,23 @@ pub ruleset int_ends = (int_one_arm, int_arm, int_sixteen, high_there, low_there
 
 -- ---- floats
 
-module _ (bits : ℕ) (w : Fits w32 bits) (r : Narrowed16) (e : r ≡ answer16 (narrowed single half bits)) where
-  pub single_kept : (q : ℕ) → r ≡ N16.Pattern q → false ≡ fewest 4 (float_meant 4 bits (meaning single bits))
-  single_kept q p =
-      ap is_lost (sym (kept16 (narrowed single half bits) q (sym e ∙ p))) ∙ sym (single-fewest bits w.fits)
+told_lost : (r : Option ℕ) (t : Bool) → is_some r ≡ not t → t ≡ is_lost r
+told_lost (Some q) true h = absurd (false≢true (sym h))
+told_lost (Some q) false h = refl
+told_lost None true h = refl
+told_lost None false h = absurd (false≢true h)
 
-  pub single_lost : r ≡ N16.None → true ≡ fewest 4 (float_meant 4 bits (meaning single bits))
-  single_lost p = ap is_lost (sym (lost16 (narrowed single half bits) (sym e ∙ p))) ∙ sym (single-fewest bits w.fits)
+-- a width is the fewest where the narrower one has no pattern
+module _ (bits : ℕ) (r : Option ℕ) (t : Bool) (h : is_some r ≡ not t) where
+  pub single_told : Fits w32 bits → r ≡ narrowed single half bits →
+      t ≡ fewest 4 (float_meant 4 bits (meaning single bits))
+  single_told w e = told_lost r t h ∙ ap is_lost e ∙ sym (single-fewest bits w.fits)
 
-module _ (bits : ℕ) (w : Fits w64 bits) (r : Narrowed32) (e : r ≡ answer32 (narrowed double single bits)) where
-  pub double_kept : (q : ℕ) → r ≡ N32.Pattern q → false ≡ fewest 8 (float_meant 8 bits (meaning double bits))
-  double_kept q p =
-      ap is_lost (sym (kept32 (narrowed double single bits) q (sym e ∙ p))) ∙ sym (double-fewest bits w.fits)
+  pub double_told : Fits w64 bits → r ≡ narrowed double single bits →
+      t ≡ fewest 8 (float_meant 8 bits (meaning double bits))
+  double_told w e = told_lost r t h ∙ ap is_lost e ∙ sym (double-fewest bits w.fits)
 
-  pub double_lost : r ≡ N32.None → true ≡ fewest 8 (float_meant 8 bits (meaning double bits))
-  double_lost p =
-      ap is_lost (sym (lost32 (narrowed double single bits) (sym e ∙ p))) ∙ sym (double-fewest bits w.fits)
-
-pub ruleset width_ends = (single_kept, single_lost, double_kept, double_lost, rules)
+pub ruleset width_ends = (single_told, double_told, rules)
 
 -- an arm of a width
 module _ (s : List ℕ) (at count : ℕ) where

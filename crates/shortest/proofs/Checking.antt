@@ -1,5 +1,6 @@
 -- The check's loop: what holds before each turn, what a turn keeps of it, and what the check answers at its ends. A
 -- turn of the loop is a turn of the definition, over the step's own walk, `dictionary.Turns`.
+use Rattle.std.specs.Prelude.{Ok, Err}
 use mathlib.Core.Path.{◌≡◌, refl, ◌∙◌, sym, ap, subst}
 use mathlib.Core.Bool.{Bool, true, false, false≢true}
 use mathlib.Core.List.{List, ◌++◌}
@@ -10,15 +11,12 @@ use borrow.Author.Tests.{lt-ltb, le-ltb, leb-true, leb-false}
 use lib.Dec.{leb}
 use lib.ListN.{length, take, drop, length-drop, take-append-drop}
 use lib.Seq.{length-take-le}
+use Rattle.types.specs.Answers.{Checked, Skipped}
 use Rattle.types.specs.declared.Place.{Place}
 use Rattle.types.specs.declared.Places.{Places}
 use Rattle.types.specs.declared.Budget.{Budget}
 use Rattle.types.specs.declared.Refusal.{Refusal}
 use Rattle.types.specs.declared.Refusal.TheVariants as R
-use Rattle.types.specs.declared.Skipped.{Skipped}
-use Rattle.types.specs.declared.Skipped.TheVariants as SK
-use Rattle.types.specs.declared.Checked.{Checked}
-use Rattle.types.specs.declared.Checked.TheVariants as C
 use Rattle.header.specs.Header.{header_length}
 use Rattle.dictionary.specs.Wholes.{body_bytes}
 use Rattle.dictionary.specs.Steps.{skipped}
@@ -89,17 +87,17 @@ module _ (s : List ℕ) (fuel left at : ℕ) (enough : fuel ≡ suc left) where
 
   pub check_longer : (place : Place) (rest : Budget) (places : Places) (t : Bool) → at < length s →
       Past s at (record { 0 = unlimited }) place rest places t → shortest (between s at place.0) ≡ false →
-      check_from fuel s at ≡ C.Refused R.NotShortest (record { 0 = at })
+      check_from fuel s at ≡ Err (R.NotShortest, record { 0 = at })
   unfolding check_from
   check_longer place rest places t h e k = rw (enough, lt-ltb at (length s) h, e.is, k) refl
 
   pub check_stop : (place : Place) (rest : Budget) (why : Refusal) → at < length s →
-      skipped s at (record { 0 = unlimited }) ≡ SK.Refused place rest why →
-      check_from fuel s at ≡ C.Refused why (record { 0 = at })
+      skipped s at (record { 0 = unlimited }) ≡ Err (place, rest, why) →
+      check_from fuel s at ≡ Err (why, record { 0 = at })
   unfolding check_from
   check_stop place rest why h e = rw (enough, lt-ltb at (length s) h, e) refl
 
-  pub check_end : length s ≤ at → check_from fuel s at ≡ C.Accepted
+  pub check_end : length s ≤ at → check_from fuel s at ≡ (Ok tt)
   unfolding check_from
   check_end h = rw (enough, le-ltb at (length s) h) refl
 
@@ -139,28 +137,28 @@ accepted_on s at h end f i =
 
 module _ (s : List ℕ) (at : Place) (i : Checking s at.0) where
   -- the end of the list
-  pub accepts : length s ≤ at.0 → C.Accepted ≡ check_all s
+  pub accepts : length s ≤ at.0 → (Ok tt) ≡ check_all s
   accepts h =
       walk_answers checking s _ i.atoms at.0 _ i.walked _
       (λ fuel later k. check_end s fuel later at.0 k h)
 
   -- an atom that was accepted by its first byte: the loop goes on behind it
-  module _ (h : at.0 < length s) (end : ℕ) (f : (end ≡ at.0 → ⊥) → Fine s at.0 end) (other : end ≡ at.0 → ⊥) where
+  module _ (h : at.0 < length s) (end : ℕ) (f : Fine s at.0 end) where
     pub passes : Checking s end
-    passes = accepted_on s at.0 h end (f other) i
+    passes = accepted_on s at.0 h end f i
 
     pub falls_short : length s - end < length s - at.0
-    falls_short = let a = (f other).rises in let b = (f other).inside in omega arith
+    falls_short = let a = f.rises in let b = f.inside in omega arith
 
   module _ (h : at.0 < length s) (r : Skipped) (q : r ≡ skipped s at.0 (record { 0 = unlimited })) where
     -- refused by the step
-    pub refuses : (place : Place) (rest : Budget) (why : Refusal) → r ≡ SK.Refused place rest why →
-        C.Refused why at ≡ check_all s
+    pub refuses : (place : Place) (rest : Budget) (why : Refusal) → r ≡ Err (place, rest, why) →
+        Err (why, at) ≡ check_all s
     refuses place rest why p =
         walk_answers checking s _ i.atoms at.0 _ i.walked _
         (λ fuel later k. check_stop s fuel later at.0 k place rest why h (sym q ∙ p))
 
-    module _ (place : Place) (rest : Budget) (places : Places) (t : Bool) (p : r ≡ SK.Past place rest places t) where
+    module _ (place : Place) (rest : Budget) (places : Places) (t : Bool) (p : r ≡ Ok (place, rest, places, t)) where
       went : Past s at.0 (record { 0 = unlimited }) place rest places t
       went = record { is = sym q ∙ p }
 
@@ -186,7 +184,7 @@ module _ (s : List ℕ) (at : Place) (i : Checking s at.0) where
 
       -- or not
       pub longer : (judged : Bool) → judged ≡ shortest (atom_at s places) → judged ≡ false →
-          C.Refused R.NotShortest at ≡ check_all s
+          Err (R.NotShortest, at) ≡ check_all s
       longer judged j k =
           walk_answers checking s _ i.atoms at.0 _ i.walked _
           (λ fuel later n. check_longer s fuel later at.0 n place rest places t h went

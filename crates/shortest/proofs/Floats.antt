@@ -1,6 +1,7 @@
 -- Floats by their widths: a magnitude that a narrower format has, a wider one has too; so the smallest width is by the
 -- law of `Counts`, and narrowing tells it. A NaN narrows to nothing. And the pattern of a format with a sign and a
 -- magnitude, there and back. Rests on the laws of narrowing and widening, `binary.Laws`.
+use Rattle.std.specs.Prelude.{Option, Some, None}
 use mathlib.Core.Path.{◌≡◌, refl, ◌∙◌, sym, ap, subst}
 use mathlib.Core.Bool.{Bool, true, false, not, cond, false≢true}
 use Prim.Native.Nat.{ℕ, ◌*◌, ◌+◌, ◌^◌, ◌≤◌, ◌<◌}
@@ -9,7 +10,7 @@ use native.Mathlib.Nat.{le_of_lt}
 use lib.Dec.{eqb}
 use Rattle.types.specs.Forms.{floats_read, allowed_float}
 use Rattle.binary.specs.Formats.{Layout, half, single, double, leading, sign_weight, magnitude, Meaning, finite, infinite, nan, meaning, NotNan}
-use Rattle.binary.specs.Conversions.{with_sign, infinity, candidate, has, Narrowed, kept, lost, narrowed, narrowed_meaning}
+use Rattle.binary.specs.Conversions.{with_sign, infinity, candidate, has, narrowed, narrowed_meaning}
 use Rattle.binary.proofs.Patterns.{rest_lt, signed_lt, meaning_signed, meant-finite, has_it}
 use Rattle.binary.proofs.Narrowing.{narrowed_by, found, infinity_lt}
 use Rattle.binary.proofs.Laws.{narrowed_complete}
@@ -63,14 +64,14 @@ pub has_more : (m n k : ℕ) → allowed_float n ≡ true → allowed_float k �
 has_more m n k a b = has_cases n k m (allowed_is n a) (allowed_is k b)
 
 -- a pattern's magnitude is one that its format has
-kept_has : (t : Bool) (q : ℕ) (n : Narrowed) → cond t n lost ≡ kept q → t ≡ true
+kept_has : (t : Bool) (q : ℕ) (n : Option ℕ) → cond t n None ≡ Some q → t ≡ true
 kept_has true q n e = refl
 kept_has false q n e = absurd (false≢true cc)
 
 pub finite-has : (f : Layout) (b : ℕ) (s : Bool) (m : ℕ) → b < 2 * sign_weight f → meaning f b ≡ finite s m →
     has f m ≡ true
 finite-has f b s m h e =
-    kept_has (has f m) b (kept (with_sign f s (candidate f m)))
+    kept_has (has f m) b (Some (with_sign f s (candidate f m)))
     (sym (narrowed_by f f b (finite s m) e) ∙ narrowed_complete f f b b (h, subst NotNan (sym e) tt, refl))
 
 -- ---- the smallest width
@@ -99,9 +100,9 @@ unfolding shortest_f first_that
 two_fewest m h = rw h refl
 
 -- narrowing tells it
-abbrev pub is_lost : Narrowed → Bool
-is_lost (kept q) = false
-is_lost lost = true
+abbrev pub is_lost : Option ℕ → Bool
+is_lost (Some q) = false
+is_lost None = true
 
 module _ (count b : ℕ) (from to : Layout) (h : b < 2 * sign_weight from) (not-two : eqb count 2 ≡ false)
     (by-has : (m : ℕ) → has from m ≡ true → eqb count (shortest_f m) ≡ not (has to m))
@@ -110,7 +111,7 @@ module _ (count b : ℕ) (from to : Layout) (h : b < 2 * sign_weight from) (not-
     fewest_of (finite s m) e =
         by-has m (finite-has from b s m h e) ∙ sym (lost-cond (has to m) (with_sign to s (candidate to m)))
       where
-        lost-cond : (t : Bool) (q : ℕ) → is_lost (cond t (kept q) lost) ≡ not t
+        lost-cond : (t : Bool) (q : ℕ) → is_lost (cond t (Some q) None) ≡ not t
         lost-cond true q = refl
         lost-cond false q = refl
     fewest_of (infinite s) e = not-two

@@ -1,5 +1,6 @@
 -- THE FORM OF A MEANING IS AN ATOM WITH THAT MEANING, its number in any count that holds it, under the writer's header:
 -- its bytes are below 256, and it is in shortest form at the fewest count. By the kind; one law over the count.
+use Rattle.std.specs.Prelude.{Result}
 use mathlib.Core.Path.{◌≡◌, refl, ◌∙◌, sym, ap, subst}
 use mathlib.Core.Bool.{Bool, true, false, ◌&&◌}
 use mathlib.Core.List.{List, [], ◌∷◌, ◌++◌}
@@ -10,11 +11,12 @@ use lib.Dec.{ltb, lit<}
 use lib.ListN.{length, take, drop, length-append}
 use lib.Seq.{drop-append_seam, take-append_seam}
 use borrow.Author.Tests.{eq-eqb, ltb-true, ltb-false, lt-ltb}
+use Rattle.types.specs.declared.Special.{Special}
+use Rattle.types.specs.declared.Refusal.{Refusal}
 use Rattle.types.specs.Kinds.{kind_code, special_code, special_known}
 use Rattle.types.specs.Forms.{integers_written, floats_read, sizes, count_of, allowed_count, allowed_float, listed, known, body_length}
 use Rattle.types.specs.declared.Kind.{Kind}
 use Rattle.types.specs.declared.Kind.TheVariants as K
-use Rattle.types.specs.declared.SpecialAnswer.{SpecialAnswer}
 use Rattle.types.proofs.Specials.{special_known_lem, special_small}
 use Rattle.header.specs.Header.{later_bytes, header_bytes, header_kind, header_argument, header_length}
 use Rattle.header.proofs.Answers.{bytes_one, bytes_more}
@@ -132,7 +134,7 @@ held_formed c (special s) h = record {
   word = omega (arith, special_small s);
   is_known = lt-ltb (special_code s) 7 (special_small s);
   long = refl;
-  means = ap (λ (x : SpecialAnswer). special (special_known x)) (special_known_lem s);
+  means = ap (λ (x : Result Special Refusal). special (special_known x)) (special_known_lem s);
 }
 held_formed c (int z) h =
     let b = allowed_bounds c h.0 in

@@ -1,12 +1,13 @@
 -- Atoms that are accepted by their first byte: a UInt of one byte, a string, a sequence, each whole, is in shortest
 -- form.
 use mathlib.Core.Path.{◌≡◌, refl, ◌∙◌, sym, ap, subst}
-use mathlib.Core.Bool.{Bool, true, false}
+use mathlib.Core.Bool.{Bool, true, false, false≢true}
+use Rattle.std.specs.Prelude.{Option, Some, None}
 use mathlib.Core.List.{List, ◌∷◌}
 use Prim.Native.Nat.{ℕ, suc, ◌+◌, ◌-◌, ◌/◌, ◌%◌, ◌≤◌, ◌<◌}
 use native.Mathlib.Omega.{arith}
 use borrow.Author.Rules.{rules}
-use borrow.Author.Tests.{eqb-true, ne_eqb}
+use borrow.Author.Tests.{eqb-true}
 use borrow.Rule.Slice.Know.{Fit}
 use borrow.Table.Referent.{f_int}
 use lib.Dec.{eqb}
@@ -29,24 +30,6 @@ use Rattle.shortest.specs.Checks.{between}
 use Rattle.shortest.specs.Steps.{short_body, Fine}
 use Rattle.shortest.proofs.Counts.{uint_one}
 use Rattle.shortest.proofs.Headers.{one_byte}
-
--- how many body bytes the first byte says
-module _ (b : ℕ) where
-  pub body_uint : b ≡ 0x40 → 1 ≡ short_body b
-  body_uint e = rw e refl
-
-  module _ (n : b ≡ 0x40 → ⊥) where
-    pub body_string : b / 16 ≡ 14 → b % 16 ≡ short_body b
-    body_string e = rw (ne_eqb b 0x40 n, e) refl
-
-    module _ (m : b / 16 ≡ 14 → ⊥) where
-      pub body_sequence : b / 16 ≡ 8 → 0 ≡ short_body b
-      body_sequence e = rw (ne_eqb b 0x40 n, ne_eqb (b / 16) 14 m, e) refl
-
-      pub body_none : (b / 16 ≡ 8 → ⊥) → 16 ≡ short_body b
-      body_none e = rw (ne_eqb b 0x40 n, ne_eqb (b / 16) 14 m, ne_eqb (b / 16) 8 e) refl
-
-pub ruleset short_body_ends = (body_uint, body_string, body_sequence, body_none, rules)
 
 -- an atom behind a header of one byte, of a kind
 module _ (b : ℕ) (x : List ℕ) (kind : Kind) (one : more_follow b ≡ false) (k : kind_known (kind_from (b / 32)) ≡ kind)
@@ -133,18 +116,14 @@ module _ (s : List ℕ) (at : ℕ) (within : at < length s) (bytes : Fit (f_int 
         let four : b / 32 ≡ 4 = omega arith in
         fine K.Sequence (ap (λ (i : ℕ). eqb (i % 2) 1) e) (ap (λ (i : ℕ). kind_known (kind_from i)) four) refl (sym size) refl
 
-    fine_by : (t u v : Bool) → eqb b 0x40 ≡ t → eqb (b / 16) 14 ≡ u → eqb (b / 16) 8 ≡ v → n < 16 →
-        n ≡ pick t 1 (pick u (b % 16) (pick v 0 16)) → Fine s at (at + 1 + n)
-    fine_by true u v e f g few q = uint_fine (eqb-true b 0x40 e) q
-    fine_by false true v e f g few q = string_fine (eqb-true (b / 16) 14 f) q
-    fine_by false false true e f g few q = sequence_fine (eqb-true (b / 16) 8 g) q
-    fine_by false false false e f g few q = absurd (omega arith)
+    fine_by : (t u v : Bool) → eqb b 0x40 ≡ t → eqb (b / 16) 14 ≡ u → eqb (b / 16) 8 ≡ v →
+        Some n ≡ pick t (Some 1) (pick u (Some (b % 16)) (pick v (Some 0) None)) → Fine s at (at + 1 + n)
+    fine_by true u v e f g q = uint_fine (eqb-true b 0x40 e) cc
+    fine_by false true v e f g q = string_fine (eqb-true (b / 16) 14 f) cc
+    fine_by false false true e f g q = sequence_fine (eqb-true (b / 16) 8 g) cc
+    fine_by false false false e f g q = absurd (false≢true cc)
 
-    pub short_fine : n ≡ short_body b → n < 16 → (at + 1 + n ≡ at → ⊥) → Fine s at (at + 1 + n)
-    short_fine q few other = fine_by (eqb b 0x40) (eqb (b / 16) 14) (eqb (b / 16) 8) refl refl refl few q
+    pub short_fine : (body : Option ℕ) → body ≡ short_body b → body ≡ Some n → Fine s at (at + 1 + n)
+    short_fine body q p = fine_by (eqb b 0x40) (eqb (b / 16) 14) (eqb (b / 16) 8) refl refl refl (sym p ∙ q)
 
--- its own place says nothing
-pub not_short : (s : List ℕ) (at : ℕ) → (at ≡ at → ⊥) → Fine s at at
-not_short s at other = absurd (other refl)
-
-pub ruleset short_ends = (short_fine, not_short, rules)
+pub ruleset short_ends = (short_fine, rules)

@@ -1,11 +1,10 @@
 -- THE CHECKER. Document 02, K3: "Refusals, each with the start of its atom: 11 NotShortest, after 3, 4 and 6 of the
 -- same atom."
-use Rattle.std.specs.Prelude.{ℕ, zero, suc, ◌-◌, ◌≤◌, ◌≡◌, false, List, ◌++◌, ltb, length, take, drop}
+use Rattle.std.specs.Prelude.{ℕ, zero, suc, ◌-◌, ◌≤◌, ◌≡◌, false, List, ◌++◌, ltb, length, take, drop, Ok, Err}
+use Rattle.types.specs.Answers.{Checked}
 use Rattle.types.specs.Choice.{pick}
 use Rattle.types.specs.declared.Refusal.{Refusal}
 use Rattle.types.specs.declared.Refusal.TheVariants as R
-use Rattle.types.specs.declared.Checked.{Checked}
-use Rattle.types.specs.declared.Checked.TheVariants as C
 use Rattle.dictionary.specs.Wholes.{IsAtom, Spoilt}
 use Rattle.dictionary.specs.Steps.{skipped}
 use Rattle.dictionary.specs.Runs.{unlimited, after_step}
@@ -17,15 +16,15 @@ between s first after = take (after - first) (drop first s)
 
 -- on from a place: "3, 4 and 6" as exact reading gives them, without a budget, then 11; at most `fuel` atoms
 unfoldable pub check_from : ℕ → List ℕ → ℕ → Checked
-check_from zero s at = C.Accepted
+check_from zero s at = (Ok tt)
 check_from (suc fuel) s at =
     pick (ltb at (length s))
     (after_step (skipped s at (record { 0 = unlimited }))
     (λ place rest places string.
     pick (shortest (between s at place.0)) (check_from fuel s place.0)
-    (C.Refused R.NotShortest (record { 0 = at })))
-    (λ r. C.Refused r (record { 0 = at })))
-    C.Accepted
+    (Err (R.NotShortest, record { 0 = at })))
+    (λ r. Err (r, record { 0 = at })))
+    (Ok tt)
 
 -- THE CHECK of all: the first bad atom decides
 abbrev pub check_all : List ℕ → Checked

@@ -1,6 +1,6 @@
 -- What the steps of the check do: for the contracts of private functions alone. An atom that the step has passed, by
 -- its places, and what is judged of it.
-use Rattle.std.specs.Prelude.{ℕ, ◌+◌, ◌/◌, ◌%◌, ◌≤◌, ◌<◌, ◌≡◌, true, List, eqb, length}
+use Rattle.std.specs.Prelude.{ℕ, ◌+◌, ◌/◌, ◌%◌, ◌≤◌, ◌<◌, ◌≡◌, true, List, eqb, length, Option, Some, None}
 use Rattle.types.specs.Choice.{pick}
 use Rattle.types.specs.declared.Places.{Places}
 use Rattle.header.specs.Header.{header_length}
@@ -29,9 +29,10 @@ float_at count s at =
     float_meant count (number_at count s at) (meaning (layout_at count) (number_at count s at))
 
 -- the body bytes of an atom whose header is this byte alone, and which takes the fewest bytes whatever they hold: a
--- UInt of one byte, a string, a sequence; 16 of any other
-abbrev pub short_body : ℕ → ℕ
-short_body b = pick (eqb b 0x40) 1 (pick (eqb (b / 16) 14) (b % 16) (pick (eqb (b / 16) 8) 0 16))
+-- UInt of one byte, a string, a sequence; of any other nothing
+abbrev pub short_body : ℕ → Option ℕ
+short_body b =
+    pick (eqb b 0x40) (Some 1) (pick (eqb (b / 16) 14) (Some (b % 16)) (pick (eqb (b / 16) 8) (Some 0) None))
 
 -- an atom that is accepted, from one place to another
 pub record Fine (s : List ℕ) (at after : ℕ) : Type 0 where

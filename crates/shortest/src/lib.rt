@@ -2,7 +2,7 @@
 // means. Document 02, K3.
 #![tactic(auto)]
 
-ghost use Rattle.std.specs.Prelude.{◌≡◌, true, not, ◌&&◌, ◌+◌, ◌*◌, ◌^◌, ◌≤◌, ◌<◌, eqb, leb, length};
+ghost use Rattle.std.specs.Prelude.{◌≡◌, IfSome, true, not, ◌&&◌, ◌+◌, ◌*◌, ◌^◌, ◌≤◌, ◌<◌, eqb, leb, length};
 ghost use Rattle.types.specs.Forms.{allowed_count, allowed_float};
 ghost use Rattle.little.specs.Le.{number_at};
 ghost use Rattle.little.specs.Twos.{twos};
@@ -13,7 +13,6 @@ ghost use Rattle.shortest.specs.Forms.{shortest_header, fewest, shortest};
 ghost use Rattle.shortest.specs.Checks.{check_all};
 ghost use Rattle.shortest.specs.Steps.{atom_at, Stands, float_at, short_body, Fine};
 
-use binary::{Narrowed16, Narrowed32};
 use types::{Budget, Checked, Place, Places, Refusal, Skipped};
 
 // Whether a header of two bytes or more is what the header writer gives: its last byte holds something, and a tenth
@@ -94,20 +93,14 @@ fn shortest_int(source: &[u8], at: usize, count: u64) -> bool
 fn shortest_single(bits: u32) -> bool
     ensures { result ≡ fewest 4 (float_meant 4 bits (meaning single bits)) }
 {
-    match binary::f32_to_f16_bits(bits) {
-        Narrowed16::Pattern(_) => return false,
-        Narrowed16::None => return true,
-    }
+    binary::f32_to_f16_bits(bits).is_none()
 }
 
 // Whether a binary64 value has no narrower width; a NaN has none.
 fn shortest_double(bits: u64) -> bool
     ensures { result ≡ fewest 8 (float_meant 8 bits (meaning double bits)) }
 {
-    match binary::f64_to_f32_bits(bits) {
-        Narrowed32::Pattern(_) => return false,
-        Narrowed32::None => return true,
-    }
+    binary::f64_to_f32_bits(bits).is_none()
 }
 
 // Whether a float takes the fewest bytes.
@@ -152,61 +145,55 @@ fn shortest_atom(source: &[u8], places: Places) -> bool
 }
 
 // The body bytes of an atom whose header is this byte alone, as nearly all of a dictionary's are, and which takes the
-// fewest bytes whatever they hold: a UInt of one byte, a string, a sequence. 16 of any other.
-fn short_body(first: u8) -> usize
+// fewest bytes whatever they hold: a UInt of one byte, a string, a sequence.
+fn short_body(first: u8) -> Option<usize>
     ensures { result ≡ short_body first }
 {
     if first == 0x40 {
-        return 1;
+        return Some(1);
     }
     if first / 16 == 14 {
-        return (first % 16) as usize;
+        return Some((first % 16) as usize);
     }
     if first / 16 == 8 {
-        return 0;
+        return Some(0);
     }
-    return 16;
+    None
 }
 
-// The place after an atom that is accepted by its first byte; of any other its own.
-fn short_end(source: &[u8], at: usize) -> usize
+// The place after an atom that is accepted by its first byte.
+fn short_end(source: &[u8], at: usize) -> Option<usize>
     requires { at < length source.now }
-    ensures { (result ≡ at → ⊥) → Fine source.now at result }
+    ensures { IfSome result (λ end. Fine source.now at end) }
 {
-    let body = short_body(source[at]);
+    let body = short_body(source[at])?;
     let from = at + 1;
-    if body < 16 {
-        if body <= source.len() - from {
-            return from + body;
-        }
+    if body <= source.len() - from {
+        return Some(from + body);
     }
-    return at;
+    None
 }
 
 // Checks that each of a list's atoms is whole, known and in shortest form, or refuses the first that is not, at the
-// place where it starts.
+// place where it starts. Each tells where the next one starts, so that there is no list to go over with `for`.
 pub fn check(source: &[u8]) -> Checked
     ensures { result ≡ check_all source.now }
 {
     let mut at = Place(0);
     while at.0 < source.len() {
-        let end = short_end(source, at.0);
-        if end != at.0 {
+        if let Some(end) = short_end(source, at.0) {
             at = Place(end);
             continue;
         }
         match dictionary::skip_atom(source, at, Budget(0xFFFF_FFFF_FFFF_FFFF)) {
-            Skipped::Past(next, _, places, _) => {
-                if shortest_atom(source, places) {
-                    at = next;
-                    continue;
+            Ok((next, _, places, _)) => {
+                if !shortest_atom(source, places) {
+                    return Err((Refusal::NotShortest, at));
                 }
-                return Checked::Refused(Refusal::NotShortest, at);
+                at = next;
             }
-            Skipped::Refused(_, _, refusal) => {
-                return Checked::Refused(refusal, at);
-            }
+            Err((_, _, refusal)) => return Err((refusal, at)),
         }
     }
-    return Checked::Accepted;
+    Ok(())
 }

@@ -5,6 +5,10 @@ use mathlib.Core.Path.{◌≡◌, sym, ◌∙◌}
 use contract.Lifetimes.{Lfts}
 use borrow.Fn.World.{ArgsD, ResD}
 use denote.Triple.Clauses.{Ended, AtExit}
+use denote.RattleType.{RattleType}
+use denote.Param.Laws.{Laws, IsCopy}
+use mir.Syntax.{Dict}
+use Rattle.std.specs.declared.clone.Clone.{Ghosts}
 use Rattle.slice_reader.specs.contracts.SliceReader.from as from
 use Rattle.slice_reader.proofs.SliceReader.from.Reads as from_reads
 use Rattle.slice_reader.specs.contracts.SliceReader.rest as rest
@@ -21,14 +25,8 @@ use Rattle.slice_reader.specs.contracts.SliceReader.buffered_read_bytes as buffe
 use Rattle.slice_reader.proofs.SliceReader.buffered_read_bytes.Reads as buffered_read_bytes_reads
 use Rattle.slice_reader.specs.contracts.SliceReader.read_atom as read_atom
 use Rattle.slice_reader.proofs.SliceReader.read_atom.Reads as read_atom_reads
-use Rattle.slice_reader.specs.contracts.IntegerRead.rest as integer_rest
-use Rattle.slice_reader.proofs.IntegerRead.rest.Reads as integer_rest_reads
-use Rattle.slice_reader.specs.contracts.FloatRead.rest as float_rest
-use Rattle.slice_reader.proofs.FloatRead.rest.Reads as float_rest_reads
-use Rattle.slice_reader.specs.contracts.StringRead.rest as string_rest
-use Rattle.slice_reader.proofs.StringRead.rest.Reads as string_rest_reads
-use Rattle.slice_reader.specs.contracts.AtomRead.rest as atom_rest
-use Rattle.slice_reader.proofs.AtomRead.rest.Reads as atom_rest_reads
+use Rattle.slice_reader.specs.contracts.Read.rest as read_rest
+use Rattle.slice_reader.proofs.Read.rest.Reads as read_rest_reads
 
 -- Post is the contract as Rattle generated it; Same is when two results count as one
 abbrev pub One : (e : Ended) →
@@ -75,14 +73,8 @@ pub read_atom_one : One read_atom.ended read_atom_reads.Post
 read_atom_one κs a r₁ r₂ s₁ s₂ p q =
     (simp (p.0, q.0), (simp (p.0, p.1.0, q.0, q.1.0), simp (p.0, p.1.1, q.0, q.1.1)))
 
-pub integer_rest_one : One integer_rest.ended integer_rest_reads.Post (λ κs r₁ r₂. r₁ ≡ r₂)
-integer_rest_one κs a r₁ r₂ s₁ s₂ p q = p ∙ sym q
-
-pub float_rest_one : One float_rest.ended float_rest_reads.Post (λ κs r₁ r₂. r₁ ≡ r₂)
-float_rest_one κs a r₁ r₂ s₁ s₂ p q = p ∙ sym q
-
-pub string_rest_one : One string_rest.ended string_rest_reads.Post (λ κs r₁ r₂. r₁ ≡ r₂)
-string_rest_one κs a r₁ r₂ s₁ s₂ p q = p ∙ sym q
-
-pub atom_rest_one : One atom_rest.ended atom_rest_reads.Post (λ κs r₁ r₂. r₁ ≡ r₂)
-atom_rest_one κs a r₁ r₂ s₁ s₂ p q = p ∙ sym q
+-- of whatever was read
+module _ (A : RattleType) (ghosts : Ghosts A.Denot) (dict : Dict) (laws : Laws A) (copies : IsCopy A) where
+  pub read_rest_one :
+      One (read_rest.ended A ghosts dict) (read_rest_reads.Post A laws copies ghosts dict) (λ κs r₁ r₂. r₁ ≡ r₂)
+  read_rest_one κs a r₁ r₂ s₁ s₂ p q = p ∙ sym q

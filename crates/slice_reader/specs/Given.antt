@@ -1,16 +1,10 @@
 -- What stands at the start of a slice, and the place after it. Document 01, "Two ways of reading": "Filled reading is
 -- `SliceReader`: a header byte or number byte past the end reads as zero and the place stops at the end."
-use Rattle.std.specs.Prelude.{ℕ, List, []}
+use Rattle.std.specs.Prelude.{ℕ, List, [], Ok, Err}
+use Rattle.types.specs.Answers.{AtomAnswer, BytesAnswer, FloatAnswer, IntegerAnswer}
 use Rattle.types.specs.declared.Way.TheVariants as W
 use Rattle.types.specs.declared.Kind.{Kind}
 use Rattle.types.specs.declared.Budget.{Budget}
-use Rattle.types.specs.declared.IntegerAnswer.{IntegerAnswer}
-use Rattle.types.specs.declared.IntegerAnswer.TheVariants as I
-use Rattle.types.specs.declared.FloatAnswer.{FloatAnswer}
-use Rattle.types.specs.declared.FloatAnswer.TheVariants as F
-use Rattle.types.specs.declared.BytesAnswer.{BytesAnswer}
-use Rattle.types.specs.declared.AtomAnswer.{AtomAnswer}
-use Rattle.types.specs.declared.AtomAnswer.TheVariants as A
 use Rattle.integer.specs.Integers.{integer_read}
 use Rattle.float.specs.Floats.{float_read}
 use Rattle.reader.specs.Strings as strings
@@ -32,16 +26,16 @@ atom_given s budget = atom_read W.Filled s 0 budget []
 
 -- the place after each, whether refused or not
 abbrev pub integer_place : IntegerAnswer → ℕ
-integer_place (I.Read p x) = p.0
-integer_place (I.Refused p r) = p.0
+integer_place (Ok (p, x)) = p.0
+integer_place (Err (p, r)) = p.0
 
 abbrev pub float_place : FloatAnswer → ℕ
-float_place (F.Read p x bits) = p.0
-float_place (F.Refused p r) = p.0
+float_place (Ok (p, x, bits)) = p.0
+float_place (Err (p, r)) = p.0
 
 abbrev pub string_place : BytesAnswer → ℕ
 string_place = strings.string_place
 
 abbrev pub atom_place : AtomAnswer → ℕ
-atom_place (A.Read p budget x) = p.0
-atom_place (A.Refused p budget r) = p.0
+atom_place (Ok (p, budget, x)) = p.0
+atom_place (Err (p, budget, r)) = p.0

@@ -3,9 +3,8 @@
 // as zero, and only a string can run out. What is for whom:
 //
 // `SliceReader` and its functions are the original's reader, for a caller that holds one and goes on with it, as
-// `held_over` of `test_slice_reader` does. An answer that carries the reader on is a struct with the answer beside the
-// reader, since an enum can't hold a reference. Each function is thin: it takes the reader apart and calls what stands
-// on the plain slice.
+// `held_over` of `test_slice_reader` does. A read answers a struct, the answer beside the reader. Each function is
+// thin: it takes the reader apart and calls what stands on the plain slice.
 //
 // `left_from`, and of each read the one at a slice's start and what it leaves (`integer_at_start`, `left_by_integer`),
 // do the work. They are for the functions over the reader, and for a caller that carries the slice itself.
@@ -28,31 +27,10 @@ pub struct SliceReader<'a> {
     pub data: &'a [u8],
 }
 
-// What an integer read answers, and the reader after it.
+// What a read answers, and the reader after it. A string's mark is a part of the slice as it was before the read.
 #[derive(Clone, Copy)]
-pub struct IntegerRead<'a> {
-    pub answer: IntegerAnswer,
-    pub reader: SliceReader<'a>,
-}
-
-// What a float read answers, and the reader after it.
-#[derive(Clone, Copy)]
-pub struct FloatRead<'a> {
-    pub answer: FloatAnswer,
-    pub reader: SliceReader<'a>,
-}
-
-// What a string read answers, and the reader after it. The mark is a part of the slice as it was before the read.
-#[derive(Clone, Copy)]
-pub struct StringRead<'a> {
-    pub answer: BytesAnswer,
-    pub reader: SliceReader<'a>,
-}
-
-// What an atom read answers, and the reader after it. A string's mark is a part of the slice as it was before the read.
-#[derive(Clone, Copy)]
-pub struct AtomRead<'a> {
-    pub answer: AtomAnswer,
+pub struct Read<'a, A> {
+    pub answer: A,
     pub reader: SliceReader<'a>,
 }
 
@@ -76,8 +54,7 @@ pub fn left_by_integer(data: &[u8], answer: IntegerAnswer) -> &[u8]
     ensures { LeftOf «data».entry (integer_place answer) result }
 {
     match answer {
-        IntegerAnswer::Read(place, _) => return left_from(data, place),
-        IntegerAnswer::Refused(place, _) => return left_from(data, place),
+        Ok((place, _)) | Err((place, _)) => left_from(data, place),
     }
 }
 
@@ -93,8 +70,7 @@ pub fn left_by_float(data: &[u8], answer: FloatAnswer) -> &[u8]
     ensures { LeftOf «data».entry (float_place answer) result }
 {
     match answer {
-        FloatAnswer::Read(place, _, _) => return left_from(data, place),
-        FloatAnswer::Refused(place, _) => return left_from(data, place),
+        Ok((place, _, _)) | Err((place, _)) => left_from(data, place),
     }
 }
 
@@ -110,8 +86,7 @@ pub fn left_by_string(data: &[u8], answer: BytesAnswer) -> &[u8]
     ensures { LeftOf «data».entry (string_place answer) result }
 {
     match answer {
-        BytesAnswer::Read(place, _) => return left_from(data, place),
-        BytesAnswer::Refused(place, _) => return left_from(data, place),
+        Ok((end, _)) | Err((end, _)) => left_from(data, end),
     }
 }
 
@@ -128,8 +103,7 @@ pub fn left_by_atom(data: &[u8], answer: AtomAnswer) -> &[u8]
     ensures { LeftOf «data».entry (atom_place answer) result }
 {
     match answer {
-        AtomAnswer::Read(place, _, _) => return left_from(data, place),
-        AtomAnswer::Refused(place, _, _) => return left_from(data, place),
+        Ok((place, _, _)) | Err((place, _, _)) => left_from(data, place),
     }
 }
 
@@ -163,93 +137,66 @@ impl<'a> SliceReader<'a> {
     }
 
     // Reads an integer of a kind and a count of bytes.
-    pub fn read_integer(self, kind: Kind, count: u64) -> IntegerRead<'a>
+    pub fn read_integer(self, kind: Kind, count: u64) -> Read<'a, IntegerAnswer>
         ensures { (result.answer ≡ integer_given self.entry.«data».now kind count) ×
             LeftOf self.entry.«data» (integer_place result.answer) result.reader.«data» }
     {
         let data = self.data;
         let answer = integer_at_start(data, kind, count);
         let left = left_by_integer(data, answer);
-        IntegerRead {
+        Read {
             answer,
             reader: SliceReader { data: left },
         }
     }
 
     // Reads a float of a kind and a count of bytes.
-    pub fn read_float(self, kind: Kind, count: u64) -> FloatRead<'a>
+    pub fn read_float(self, kind: Kind, count: u64) -> Read<'a, FloatAnswer>
         ensures { (result.answer ≡ float_given self.entry.«data».now kind count) ×
             LeftOf self.entry.«data» (float_place result.answer) result.reader.«data» }
     {
         let data = self.data;
         let answer = float_at_start(data, kind, count);
         let left = left_by_float(data, answer);
-        FloatRead {
+        Read {
             answer,
             reader: SliceReader { data: left },
         }
     }
 
     // Reads exactly `length` bytes, lent.
-    pub fn buffered_read_bytes(self, length: u64) -> StringRead<'a>
+    pub fn buffered_read_bytes(self, length: u64) -> Read<'a, BytesAnswer>
         ensures { (result.answer ≡ string_given self.entry.«data».now length) ×
             LeftOf self.entry.«data» (string_place result.answer) result.reader.«data» }
     {
         let data = self.data;
         let answer = string_at_start(data, length);
         let left = left_by_string(data, answer);
-        StringRead {
+        Read {
             answer,
             reader: SliceReader { data: left },
         }
     }
 
     // Reads an atom, strings lent, and charges the budget, which comes back in the answer.
-    pub fn read_atom(self, budget: Budget) -> AtomRead<'a>
+    pub fn read_atom(self, budget: Budget) -> Read<'a, AtomAnswer>
         ensures { (result.answer ≡ atom_given self.entry.«data».now budget) ×
             LeftOf self.entry.«data» (atom_place result.answer) result.reader.«data» }
     {
         let data = self.data;
         let answer = atom_at_start(data, budget);
         let left = left_by_atom(data, answer);
-        AtomRead {
+        Read {
             answer,
             reader: SliceReader { data: left },
         }
     }
 }
 
-impl<'a> IntegerRead<'a> {
-    // The slice still to be read after an integer.
+impl<'a, A: Copy> Read<'a, A> {
+    // The slice still to be read after what was read.
     pub fn rest(self) -> &'a [u8]
-        ensures after_integer { result ≡ self.entry.reader.«data» }
-    {
-        self.reader.data
-    }
-}
-
-impl<'a> FloatRead<'a> {
-    // The slice still to be read after a float.
-    pub fn rest(self) -> &'a [u8]
-        ensures after_float { result ≡ self.entry.reader.«data» }
-    {
-        self.reader.data
-    }
-}
-
-impl<'a> StringRead<'a> {
-    // The slice still to be read after a string.
-    pub fn rest(self) -> &'a [u8]
-        ensures after_string { result ≡ self.entry.reader.«data» }
-    {
-        self.reader.data
-    }
-}
-
-impl<'a> AtomRead<'a> {
-    // The slice still to be read after an atom.
-    pub fn rest(self) -> &'a [u8]
-        ensures after_atom { result ≡ self.entry.reader.«data» }
+        ensures { result ≡ self.entry.reader.«data» }
     {
         self.reader.data
     }

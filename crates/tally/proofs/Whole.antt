@@ -9,7 +9,6 @@ use lib.ListN.{length-append}
 use lib.Seq.{take-append_seam, length-take-le}
 use borrow.Author.Tests.{lt-ltb, ltb-true, ltb-false}
 use Rattle.types.specs.declared.Refusal.TheVariants as R
-use Rattle.report.specs.declared.Report.TheVariants as RP
 use Rattle.report.specs.Reports.{report_of, most_file_bytes}
 use Rattle.lent.specs.Lent.{written_content}
 use Rattle.lent.proofs.Stores.{content_room}
@@ -17,7 +16,7 @@ use Rattle.report_text.specs.Texts.{report_text}
 use Rattle.report_text.proofs.Bound.{text_most}
 
 -- whatever a longer file holds
-too_long : (file : List ℕ) → 65_536 < length file → report_of file ≡ RP.Refused R.TooLong (record { 0 = 0 })
+too_long : (file : List ℕ) → 65_536 < length file → report_of file ≡ Err (R.TooLong, record { 0 = 0 })
 unfolding report_of
 too_long file h = simp (lt-ltb most_file_bytes (length file) h)
 

@@ -7,7 +7,7 @@ ghost use Rattle.std.specs.Prelude.{◌≤◌};
 
 use types::{
     Atom, AtomAnswer, Budget, Checked, Float, Integer, Kind, Mark, Nucleus, Place, Places, Ran,
-    Special, SpecialAnswer, TallyAnswer, Way, Wide, Written,
+    Refusal, Special, TallyAnswer, Way, Wide,
 };
 
 // A word into the checksum.
@@ -17,114 +17,96 @@ fn fold(sum: u64, word: u64) -> u64 {
 
 fn integer_word(integer: Integer) -> u64 {
     match integer {
-        Integer::I8(value) => return little::bits_of_i8(value),
-        Integer::I16(value) => return little::bits_of_i16(value),
-        Integer::I32(value) => return little::bits_of_i32(value),
-        Integer::I64(value) => return little::bits_of_i64(value),
-        Integer::I128(value) => return value.lo ^ value.hi,
-        Integer::U8(value) => return value as u64,
-        Integer::U16(value) => return value as u64,
-        Integer::U32(value) => return value as u64,
-        Integer::U64(value) => return value,
-        Integer::U128(value) => return value.lo ^ value.hi,
+        Integer::I8(value) => little::bits_of_i8(value),
+        Integer::I16(value) => little::bits_of_i16(value),
+        Integer::I32(value) => little::bits_of_i32(value),
+        Integer::I64(value) => little::bits_of_i64(value),
+        Integer::I128(value) => value.lo ^ value.hi,
+        Integer::U8(value) => value as u64,
+        Integer::U16(value) => value as u64,
+        Integer::U32(value) => value as u64,
+        Integer::U64(value) => value,
+        Integer::U128(value) => value.lo ^ value.hi,
     }
 }
 
 fn float_word(float: Float) -> u64 {
     match float {
-        Float::F64(value) => return binary::f64_pattern(value),
-        Float::F32(value) => return binary::f32_pattern(value) as u64,
+        Float::F64(value) => binary::f64_pattern(value),
+        Float::F32(value) => binary::f32_pattern(value) as u64,
     }
 }
 
 // A string's length, and its first byte.
 fn string_word(string: &[u8]) -> u64 {
     let length = string.len() as u64;
-    if 0 < string.len() {
-        return length ^ (little::byte64(string[0]) << 32);
+    match string.first() {
+        Some(byte) => length ^ (u64::from(*byte) << 32),
+        None => length,
     }
-    length
 }
 
 fn bytes_word(source: &[u8], scratch: &[u8], mark: Mark) -> u64 {
-    let start = mark.start;
-    let len = mark.len;
-    let lent = mark.lent;
-    if lent {
-        return string_word(reader::part(source, start, len));
+    // Two calls, so that a lent string is told by a branch and not by a choice of addresses.
+    if mark.lent {
+        return string_word(reader::part(source, mark.start, mark.len));
     }
-    string_word(reader::part(scratch, start, len))
+    string_word(reader::part(scratch, mark.start, mark.len))
 }
 
 fn nucleus_word(source: &[u8], scratch: &[u8], nucleus: Nucleus) -> u64 {
     match nucleus {
-        Nucleus::None => return 1,
-        Nucleus::Boolean(value) => {
-            if value {
-                return 4;
-            }
-            return 3;
-        }
-        Nucleus::Integer(integer) => return integer_word(integer),
-        Nucleus::Float(float, _) => return float_word(float),
-        Nucleus::Bytes(mark) => return bytes_word(source, scratch, mark),
-        Nucleus::Unit => return 2,
-        Nucleus::Named => return 5,
-        Nucleus::DynamicMap => return 6,
-        Nucleus::DynamicEnd => return 7,
+        Nucleus::None => 1,
+        Nucleus::Boolean(true) => 4,
+        Nucleus::Boolean(false) => 3,
+        Nucleus::Integer(integer) => integer_word(integer),
+        Nucleus::Float(float, _) => float_word(float),
+        Nucleus::Bytes(mark) => bytes_word(source, scratch, mark),
+        Nucleus::Unit => 2,
+        Nucleus::Named => 5,
+        Nucleus::DynamicMap => 6,
+        Nucleus::DynamicEnd => 7,
     }
 }
 
 // The three places of an atom, each at its own bits.
 fn places_word(places: Places) -> u64 {
-    let first = places.first;
-    let body = places.body;
-    let after = places.after;
+    let Places { first, body, after } = places;
     first.0 as u64 ^ ((body.0 as u64) << 20) ^ ((after.0 as u64) << 40)
 }
 
 fn atom_word(source: &[u8], scratch: &[u8], atom: Atom) -> u64 {
-    let kind = atom.kind;
-    let arg = atom.arg;
-    let places = atom.places;
-    let nucleus = atom.nucleus;
-    nucleus_word(source, scratch, nucleus) ^ kind.code() as u64 ^ arg ^ places_word(places)
+    nucleus_word(source, scratch, atom.nucleus)
+        ^ u64::from(atom.kind.code())
+        ^ atom.arg
+        ^ places_word(atom.places)
 }
 
-fn answer4(out: &mut [u64], a: u64, b: u64, c: u64, d: u64) {
-    if out.len() < 4 {
-        return;
+// Puts words at a place of the answer, if it has room for all of them.
+fn put_words(out: &mut [u64], at: usize, words: &[u64]) {
+    if at <= out.len() && words.len() <= out.len() - at {
+        let end = at + words.len();
+        out[at..end].copy_from_slice(words);
     }
-    out[0] = a;
-    out[1] = b;
-    out[2] = c;
-    out[3] = d;
 }
 
 // The places of the last atom, behind the four words.
-fn answer_last(out: &mut [u64], last: Places) {
-    let first = last.first;
-    let body = last.body;
-    let after = last.after;
-    if out.len() < 7 {
-        return;
-    }
-    out[4] = first.0 as u64;
-    out[5] = body.0 as u64;
-    out[6] = after.0 as u64;
+fn put_last(out: &mut [u64], last: Places) {
+    let Places { first, body, after } = last;
+    put_words(out, 4, &[first.0 as u64, body.0 as u64, after.0 as u64]);
 }
 
 fn way_of(code: u64) -> Way {
     match code {
-        0 => return Way::Filled,
-        1 => return Way::ExactLent,
-        _ => return Way::ExactCopied,
+        0 => Way::Filled,
+        1 => Way::ExactLent,
+        _ => Way::ExactCopied,
     }
 }
 
 // Reads every atom of a file under a way: 0 filled, 1 exact and lent, 2 exact and copied. Answers a refusal's number or
 // 0, and the checksum, the number of atoms, the place and the budget. (No atom is empty: the test is there for the
-// proof that the loop ends.)
+// proof that the loop ends. It is no `for`, since each atom says where the next one starts.)
 #[unsafe(no_mangle)]
 pub extern "C" fn loop_read(
     source: &[u8],
@@ -140,7 +122,7 @@ pub extern "C" fn loop_read(
     let mut left = budget;
     while at < source.len() {
         match atom::read_atom_by(source, Place(at), Budget(left), scratch, way) {
-            AtomAnswer::Read(place, rest, atom) => {
+            Ok((place, rest, atom)) => {
                 let next = place.0;
                 if next <= at {
                     return 99;
@@ -150,13 +132,13 @@ pub extern "C" fn loop_read(
                 at = next;
                 left = rest.0;
             }
-            AtomAnswer::Refused(place, rest, refusal) => {
-                answer4(out, sum, atoms as u64, place.0 as u64, rest.0);
+            Err((place, rest, refusal)) => {
+                put_words(out, 0, &[sum, atoms as u64, place.0 as u64, rest.0]);
                 return refusal.number();
             }
         }
     }
-    answer4(out, sum, atoms as u64, at as u64, left);
+    put_words(out, 0, &[sum, atoms as u64, at as u64, left]);
     0
 }
 
@@ -165,15 +147,19 @@ pub extern "C" fn loop_read(
 #[unsafe(no_mangle)]
 pub extern "C" fn loop_run(source: &[u8], budget: u64, out: &mut [u64]) -> u64 {
     match dictionary::run(source, Budget(budget)) {
-        Ran::Done(place, rest, atoms, last) => {
-            answer4(out, atoms, place.0 as u64, rest.0, 0);
-            answer_last(out, last);
-            return 0;
+        Ok(run) => {
+            put_words(out, 0, &[run.atoms, run.place.0 as u64, run.budget.0, 0]);
+            put_last(out, run.last);
+            0
         }
-        Ran::Stopped(place, rest, atoms, last, refusal, start) => {
-            answer4(out, atoms, place.0 as u64, rest.0, start.0 as u64);
-            answer_last(out, last);
-            return refusal.number();
+        Err((run, refusal, start)) => {
+            put_words(
+                out,
+                0,
+                &[run.atoms, run.place.0 as u64, run.budget.0, start.0 as u64],
+            );
+            put_last(out, run.last);
+            refusal.number()
         }
     }
 }
@@ -184,25 +170,28 @@ pub extern "C" fn loop_run(source: &[u8], budget: u64, out: &mut [u64]) -> u64 {
 pub extern "C" fn loop_tally(source: &[u8], out: &mut [u64]) -> u64 {
     match dictionary::tally(source) {
         TallyAnswer::Done(last, tallied) => {
-            answer4(
+            put_words(
                 out,
-                tallied.atoms,
-                tallied.body.0,
-                tallied.charge,
-                tallied.letters,
+                0,
+                &[
+                    tallied.atoms,
+                    tallied.body.0,
+                    tallied.charge,
+                    tallied.letters,
+                ],
             );
-            answer_last(out, last);
-            return 0;
+            put_last(out, last);
+            0
         }
         TallyAnswer::Stopped(last, refusal, start) => {
-            answer4(out, start.0 as u64, 0, 0, 0);
-            answer_last(out, last);
-            return refusal.number();
+            put_words(out, 0, &[start.0 as u64, 0, 0, 0]);
+            put_last(out, last);
+            refusal.number()
         }
         TallyAnswer::Refused(last, refusal) => {
-            answer4(out, 0, 0, 0, 0);
-            answer_last(out, last);
-            return refusal.number();
+            put_words(out, 0, &[0, 0, 0, 0]);
+            put_last(out, last);
+            refusal.number()
         }
     }
 }
@@ -211,61 +200,53 @@ pub extern "C" fn loop_tally(source: &[u8], out: &mut [u64]) -> u64 {
 #[unsafe(no_mangle)]
 pub extern "C" fn loop_check(source: &[u8], out: &mut [u64]) -> u64 {
     match shortest::check(source) {
-        Checked::Accepted => {
-            answer4(out, 0, 0, 0, 0);
-            return 0;
+        Ok(()) => {
+            put_words(out, 0, &[0, 0, 0, 0]);
+            0
         }
-        Checked::Refused(refusal, start) => {
-            answer4(out, start.0 as u64, 0, 0, 0);
-            return refusal.number();
+        Err((refusal, start)) => {
+            put_words(out, 0, &[start.0 as u64, 0, 0, 0]);
+            refusal.number()
         }
     }
 }
 
 // The special of a code; None of a code that has none.
 fn special_of(code: u64) -> Special {
-    match Special::try_from(code) {
-        SpecialAnswer::Known(special) => return special,
-        SpecialAnswer::Refused(_) => return Special::None,
-    }
+    Special::try_from(code).unwrap_or(Special::None)
 }
 
 // The bytes that a writer wrote; more than any buffer has if it refused.
-fn count_of(written: Written) -> usize {
-    match written {
-        Written::Count(count) => return count,
-        Written::Refused(_) => return 0xFFFF_FFFF_FFFF_FFFF,
-    }
+fn count_of(written: Result<usize, Refusal>) -> usize {
+    written.unwrap_or(usize::MAX)
 }
 
 // Writes a value, of two words, by the writer of a number. Each arm takes the count out of its own answer, so that
 // where a writer is inlined the count stays in a register.
 fn write_one(out: &mut [u8], writer: u64, low: u64, high: u64) -> usize {
     match writer {
-        0 => return count_of(writers::write_i8(out, little::i8_of(low % 0x100))),
-        1 => return count_of(writers::write_i16(out, little::i16_of(low % 0x1_0000))),
-        2 => return count_of(writers::write_i24(out, little::i24_of(low % 0x100_0000))),
-        3 => return count_of(writers::write_i32(out, little::i32_of(low % 0x1_0000_0000))),
-        4 => return count_of(writers::write_i48(out, little::i48_of(low % 0x1_0000_0000_0000))),
-        5 => return count_of(writers::write_i64(out, little::i64_of(low))),
-        6 => return count_of(writers::write_i128(out, Wide { lo: low, hi: high })),
-        7 => return count_of(writers::write_u8(out, (low % 0x100) as u8)),
-        8 => return count_of(writers::write_u16(out, (low % 0x1_0000) as u16)),
-        9 => return count_of(writers::write_u24(out, (low % 0x100_0000) as u32)),
-        10 => return count_of(writers::write_u32(out, (low % 0x1_0000_0000) as u32)),
-        11 => return count_of(writers::write_u48(out, low % 0x1_0000_0000_0000)),
-        12 => return count_of(writers::write_u64(out, low)),
-        13 => return count_of(writers::write_u128(out, Wide { lo: low, hi: high })),
+        0 => count_of(writers::write_i8(out, little::i8_of(low % 0x100))),
+        1 => count_of(writers::write_i16(out, little::i16_of(low % 0x1_0000))),
+        2 => count_of(writers::write_i24(out, little::i24_of(low % 0x100_0000))),
+        3 => count_of(writers::write_i32(out, little::i32_of(low % 0x1_0000_0000))),
+        4 => count_of(writers::write_i48(out, little::i48_of(low % 0x1_0000_0000_0000))),
+        5 => count_of(writers::write_i64(out, little::i64_of(low))),
+        6 => count_of(writers::write_i128(out, Wide { lo: low, hi: high })),
+        7 => count_of(writers::write_u8(out, (low % 0x100) as u8)),
+        8 => count_of(writers::write_u16(out, (low % 0x1_0000) as u16)),
+        9 => count_of(writers::write_u24(out, (low % 0x100_0000) as u32)),
+        10 => count_of(writers::write_u32(out, (low % 0x1_0000_0000) as u32)),
+        11 => count_of(writers::write_u48(out, low % 0x1_0000_0000_0000)),
+        12 => count_of(writers::write_u64(out, low)),
+        13 => count_of(writers::write_u128(out, Wide { lo: low, hi: high })),
         14 => {
-            return count_of(float::write_f32(
-                out,
-                binary::f32_of_bits((low % 0x1_0000_0000) as u32),
-            ));
+            let value = binary::f32_of_bits((low % 0x1_0000_0000) as u32);
+            count_of(float::write_f32(out, value))
         }
-        15 => return count_of(float::write_f64(out, binary::f64_of_bits(low))),
-        16 => return count_of(writers::write_special(out, special_of(low))),
-        17 => return count_of(writers::write_bool(out, low == 1)),
-        _ => return count_of(header::write_atom_header(out, Kind::Sequence, low)),
+        15 => count_of(float::write_f64(out, binary::f64_of_bits(low))),
+        16 => count_of(writers::write_special(out, special_of(low))),
+        17 => count_of(writers::write_bool(out, low == 1)),
+        _ => count_of(header::write_atom_header(out, Kind::Sequence, low)),
     }
 }
 
@@ -280,47 +261,45 @@ fn past(length: usize, at: usize, count: usize) -> usize
     length
 }
 
-// Writes values, each of two words in turn, one after another; answers how many bytes they take.
-#[unsafe(no_mangle)]
-pub extern "C" fn loop_write(writer: u64, values: &[u64], out: &mut [u8]) -> usize {
-    let count = values.len() / 2;
+// Writes values, each of two words in turn, one after another, by a function that answers how many bytes one takes;
+// answers how many bytes they take.
+fn write_each<F: Fn(&mut [u8], u64, u64) -> usize>(
+    values: &[u64],
+    out: &mut [u8],
+    write: F,
+) -> usize
+    requires { F.IsAlwaysCallable write }
+{
     let mut at: usize = 0;
-    let mut i: usize = 0;
-    while i < count {
-        let low = values[2 * i];
-        let high = values[2 * i + 1];
-        at = past(out.len(), at, write_one(&mut out[at..], writer, low, high));
-        i += 1;
+    for i in 0..values.len() / 2 {
+        let count = write(&mut out[at..], values[2 * i], values[2 * i + 1]);
+        at = past(out.len(), at, count);
     }
     at
+}
+
+// Writes values by the writer of a number; answers how many bytes they take.
+#[unsafe(no_mangle)]
+pub extern "C" fn loop_write(writer: u64, values: &[u64], out: &mut [u8]) -> usize {
+    write_each(
+        values,
+        out,
+        |room, low, high| write_one(room, writer, low, high),
+    )
 }
 
 // The signature's writer in a loop of its own, of versions in the first word of two.
 #[unsafe(no_mangle)]
 pub extern "C" fn loop_write_header(values: &[u64], out: &mut [u8]) -> usize {
-    let count = values.len() / 2;
-    let mut at: usize = 0;
-    let mut i: usize = 0;
-    while i < count {
-        let version = (values[2 * i] % 0x100) as u8;
-        let written = count_of(header::write_header(&mut out[at..], version));
-        at = past(out.len(), at, written);
-        i += 1;
-    }
-    at
+    write_each(values, out, |room, low, _| {
+        count_of(header::write_header(room, (low % 0x100) as u8))
+    })
 }
 
 // The string's writer in a loop of its own: each is the first bytes of the text, of a length in the first word of two.
 #[unsafe(no_mangle)]
 pub extern "C" fn loop_write_bytes(text: &[u8], values: &[u64], out: &mut [u8]) -> usize {
-    let count = values.len() / 2;
-    let mut at: usize = 0;
-    let mut i: usize = 0;
-    while i < count {
-        let string = reader::part(text, 0, values[2 * i] as usize);
-        let written = count_of(writers::write_bytes(&mut out[at..], string));
-        at = past(out.len(), at, written);
-        i += 1;
-    }
-    at
+    write_each(values, out, |room, low, _| {
+        count_of(writers::write_bytes(room, reader::part(text, 0, low as usize)))
+    })
 }

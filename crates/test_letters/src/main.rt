@@ -73,7 +73,7 @@ fn with_pair(at: usize, first: u8, second: u8) -> [u8; 600]
     bytes
 }
 
-// Writes a place, and how many letters a string has.
+// Writes a place or a length, and how many letters a string has.
 fn put_at(out: &mut impl Write, at: usize, name: &str, string: &[u8]) -> io::Result<()> {
     write!(out, "{at}")?;
     run(out, name, string)
@@ -102,12 +102,10 @@ fn run_at(out: &mut impl Write, at: usize) -> io::Result<()>
 fn run_around(out: &mut impl Write, middle: usize) -> io::Result<()>
     requires { (2 < middle) × (middle < 596) }
 {
-    run_at(out, middle - 3)?;
-    run_at(out, middle - 2)?;
-    run_at(out, middle - 1)?;
-    run_at(out, middle)?;
-    run_at(out, middle + 1)?;
-    run_at(out, middle + 2)
+    for at in middle - 3..middle + 3 {
+        run_at(out, at)?;
+    }
+    Ok(())
 }
 
 // Writes how many letters a list of atoms has.
@@ -142,14 +140,11 @@ fn run_tallies(out: &mut impl Write) -> io::Result<()> {
     )
 }
 
-// Writes how many bytes and letters each line of a text has.
+// Writes how many bytes and letters each line of a text has that ends with a line feed.
 fn run_lines(out: &mut impl Write, text: &[u8]) -> io::Result<()> {
-    let mut start = 0;
-    for i in 0..text.len() {
-        if text[i] == b'\n' {
-            write!(out, "{}", i - start)?;
-            run(out, " bytes", &text[start..i])?;
-            start = i + 1;
+    for line in text.split_inclusive(|byte| *byte == b'\n') {
+        if let Some(string) = line.strip_suffix(b"\n") {
+            put_at(out, string.len(), " bytes", string)?;
         }
     }
     Ok(())

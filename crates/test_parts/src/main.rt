@@ -9,7 +9,7 @@
 #![tactic(auto)]
 
 use std::io::{self, Write};
-use types::{Atom, AtomAnswer, Budget, Mark, Nucleus, Place, Way};
+use types::{Atom, AtomAnswer, Budget, Mark, Nucleus, Place, Places, Way};
 
 // Writes a part.
 fn put_part(out: &mut impl Write, part: &[u8]) -> io::Result<()> {
@@ -26,21 +26,11 @@ fn put_both<'a>(
     start: usize,
     len: usize,
 ) -> io::Result<()> {
-    let lent = true;
-    put_part(
-        out,
-        reader::as_slice(source, scratch, Mark { start, len, lent }),
-    )?;
-    let lent = false;
-    put_part(
-        out,
-        reader::as_slice(source, scratch, Mark { start, len, lent }),
-    )
-}
-
-// Writes three numbers.
-fn put_three(out: &mut impl Write, first: u64, second: u64, third: u64) -> io::Result<()> {
-    writeln!(out, "{first} {second} {third}")
+    for lent in [true, false] {
+        let mark = Mark { start, len, lent };
+        put_part(out, reader::as_slice(source, scratch, mark))?;
+    }
+    Ok(())
 }
 
 // Writes an atom's places, and the string that it is, or that it is none.
@@ -50,13 +40,9 @@ fn put_atom<'a>(
     scratch: &'a [u8],
     atom: Atom,
 ) -> io::Result<()> {
-    let places = atom.places;
-    let first = places.first;
-    let body = places.body;
-    let after = places.after;
-    put_three(out, first.0 as u64, body.0 as u64, after.0 as u64)?;
-    let nucleus = atom.nucleus;
-    let Nucleus::Bytes(mark) = nucleus else {
+    let Places { first, body, after } = atom.places;
+    writeln!(out, "{} {} {}", first.0, body.0, after.0)?;
+    let Nucleus::Bytes(mark) = atom.nucleus else {
         return out.write_all(b"no string\n");
     };
     put_part(out, reader::as_slice(source, scratch, mark))
@@ -70,10 +56,9 @@ fn put_answer<'a>(
     answer: AtomAnswer,
 ) -> io::Result<()> {
     match answer {
-        AtomAnswer::Read(_, _, atom) => put_atom(out, source, scratch, atom),
-        AtomAnswer::Refused(place, budget, refusal) => {
-            out.write_all(b"refused ")?;
-            put_three(out, refusal.number(), place.0 as u64, budget.0)
+        Ok((_, _, atom)) => put_atom(out, source, scratch, atom),
+        Err((place, budget, refusal)) => {
+            writeln!(out, "refused {} {} {}", refusal.number(), place.0, budget.0)
         }
     }
 }
@@ -85,16 +70,10 @@ fn put_read(out: &mut impl Write, place: usize) -> io::Result<()> {
     let mut scratch = [0x2Du8; 8];
     let answer = atom::read_atom(source, Place(place), Budget(8));
     put_answer(out, source, &scratch, answer)?;
-    let filled = atom::read_atom_by(source, Place(place), Budget(8), &mut scratch, Way::Filled);
-    put_answer(out, source, &scratch, filled)?;
-    let copied = atom::read_atom_by(
-        source,
-        Place(place),
-        Budget(8),
-        &mut scratch,
-        Way::ExactCopied,
-    );
-    put_answer(out, source, &scratch, copied)?;
+    for way in [Way::Filled, Way::ExactCopied] {
+        let named = atom::read_atom_by(source, Place(place), Budget(8), &mut scratch, way);
+        put_answer(out, source, &scratch, named)?;
+    }
     put_part(out, &scratch)
 }
 
@@ -102,15 +81,20 @@ fn main(rt: HostRuntime) -> io::Result<()> {
     let out = &mut rt.stdout();
     let source = b"the source";
     let scratch = b"a scratch";
-    put_both(out, source, scratch, 0, 3)?;
-    put_both(out, source, scratch, 4, 5)?;
-    put_both(out, source, scratch, 4, 6)?;
-    put_both(out, source, scratch, 9, 0)?;
-    put_both(out, source, scratch, 10, 0)?;
-    put_both(out, source, scratch, 11, 0)?;
-    put_both(out, source, scratch, 18_446_744_073_709_551_615, 2)?;
-    put_read(out, 0)?;
-    put_read(out, 4)?;
-    put_read(out, 5)?;
-    put_read(out, 7)
+    let marks = [
+        (0, 3),
+        (4, 5),
+        (4, 6),
+        (9, 0),
+        (10, 0),
+        (11, 0),
+        (usize::MAX, 2),
+    ];
+    for (start, len) in marks {
+        put_both(out, source, scratch, start, len)?;
+    }
+    for place in [0, 4, 5, 7] {
+        put_read(out, place)?;
+    }
+    Ok(())
 }

@@ -51,8 +51,8 @@ fn write_byte(rt: &impl Print, integer: Integer) -> io::Result<()> {
 // Writes what a read answered, in a line.
 fn write_answer(rt: &impl Print, answer: IntegerAnswer) -> io::Result<()> {
     match answer {
-        IntegerAnswer::Read(_, integer) => write_byte(rt, integer),
-        IntegerAnswer::Refused(_, _) => println!(rt; "refused"),
+        Ok((_, integer)) => write_byte(rt, integer),
+        Err((_, _)) => println!(rt; "refused"),
     }
 }
 

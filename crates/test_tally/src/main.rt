@@ -27,7 +27,7 @@ fn run_filled(out: &mut impl Write, name: &str, byte: u8, count: usize) -> io::R
     requires { count ≤ 65537 }
 {
     let mut file = filled(byte);
-    header::write_header(&mut file, 107);
+    let _ = header::write_header(&mut file, 107);
     run(out, name, &file[0..count])
 }
 

@@ -1,15 +1,12 @@
 -- Kinds and specials and their codes. Document 01, "Bytes of an atom".
-use Rattle.std.specs.Prelude.{ℕ, eqb}
+use Rattle.std.specs.Prelude.{ℕ, eqb, Result, Ok, Err}
+use Rattle.types.specs.declared.Refusal.{Refusal}
 use Rattle.types.specs.Choice.{pick}
 use Rattle.types.specs.declared.Kind.{Kind}
 use Rattle.types.specs.declared.Kind.TheVariants as K
 use Rattle.types.specs.declared.Special.{Special}
 use Rattle.types.specs.declared.Special.TheVariants as S
 use Rattle.types.specs.declared.Refusal.TheVariants as R
-use Rattle.types.specs.declared.KindAnswer.{KindAnswer}
-use Rattle.types.specs.declared.KindAnswer.TheVariants as KA
-use Rattle.types.specs.declared.SpecialAnswer.{SpecialAnswer}
-use Rattle.types.specs.declared.SpecialAnswer.TheVariants as SA
 
 -- "Kinds 0 to 7: Special, Int, UInt, Float, Sequence, Map, Symbol, Bytes."
 abbrev pub kind_code : Kind → ℕ
@@ -23,21 +20,21 @@ kind_code K.Symbol = 6
 kind_code K.Bytes = 7
 
 -- "2 InvalidKind(code): `Kind::from_u8` of 8 to 255"
-abbrev pub kind_from : ℕ → KindAnswer
+abbrev pub kind_from : ℕ → Result Kind Refusal
 kind_from n =
-    pick (eqb n 0) (KA.Known K.Special)
-    (pick (eqb n 1) (KA.Known K.Int)
-    (pick (eqb n 2) (KA.Known K.UInt)
-    (pick (eqb n 3) (KA.Known K.Float)
-    (pick (eqb n 4) (KA.Known K.Sequence)
-    (pick (eqb n 5) (KA.Known K.Map)
-    (pick (eqb n 6) (KA.Known K.Symbol)
-    (pick (eqb n 7) (KA.Known K.Bytes) (KA.Refused (R.InvalidKind n)))))))))
+    pick (eqb n 0) (Ok K.Special)
+    (pick (eqb n 1) (Ok K.Int)
+    (pick (eqb n 2) (Ok K.UInt)
+    (pick (eqb n 3) (Ok K.Float)
+    (pick (eqb n 4) (Ok K.Sequence)
+    (pick (eqb n 5) (Ok K.Map)
+    (pick (eqb n 6) (Ok K.Symbol)
+    (pick (eqb n 7) (Ok K.Bytes) (Err (R.InvalidKind n)))))))))
 
 -- the kind that such an answer holds; Bytes of a refusal, which no three bits give
-abbrev pub kind_known : KindAnswer → Kind
-kind_known (KA.Known k) = k
-kind_known (KA.Refused r) = K.Bytes
+abbrev pub kind_known : Result Kind Refusal → Kind
+kind_known (Ok k) = k
+kind_known (Err r) = K.Bytes
 
 -- "Specials 0 to 6: None, Unit, False, True, Named, DynamicMap, DynamicEnd."
 abbrev pub special_code : Special → ℕ
@@ -50,17 +47,17 @@ special_code S.DynamicMap = 5
 special_code S.DynamicEnd = 6
 
 -- "3 UnknownSpecial(value): special argument 7 or more"
-abbrev pub special_from : ℕ → SpecialAnswer
+abbrev pub special_from : ℕ → Result Special Refusal
 special_from n =
-    pick (eqb n 0) (SA.Known S.None)
-    (pick (eqb n 1) (SA.Known S.Unit)
-    (pick (eqb n 2) (SA.Known S.False)
-    (pick (eqb n 3) (SA.Known S.True)
-    (pick (eqb n 4) (SA.Known S.Named)
-    (pick (eqb n 5) (SA.Known S.DynamicMap)
-    (pick (eqb n 6) (SA.Known S.DynamicEnd) (SA.Refused (R.UnknownSpecial n))))))))
+    pick (eqb n 0) (Ok S.None)
+    (pick (eqb n 1) (Ok S.Unit)
+    (pick (eqb n 2) (Ok S.False)
+    (pick (eqb n 3) (Ok S.True)
+    (pick (eqb n 4) (Ok S.Named)
+    (pick (eqb n 5) (Ok S.DynamicMap)
+    (pick (eqb n 6) (Ok S.DynamicEnd) (Err (R.UnknownSpecial n))))))))
 
 -- the special that such an answer holds; DynamicEnd of a refusal, which no argument below 7 gives
-abbrev pub special_known : SpecialAnswer → Special
-special_known (SA.Known special) = special
-special_known (SA.Refused r) = S.DynamicEnd
+abbrev pub special_known : Result Special Refusal → Special
+special_known (Ok special) = special
+special_known (Err r) = S.DynamicEnd

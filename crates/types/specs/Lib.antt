@@ -5,3 +5,4 @@ pub mod Ways
 pub mod Counters
 pub mod Refusals
 pub mod Values
+pub mod Answers

@@ -1,7 +1,6 @@
 // The types that every layer shares: kinds and specials, the ways of reading, the three counters, integers, floats and
 // atoms, the refusals and the answers. Document 01: "Bytes of an atom", "Two ways of reading", "Refusals by number".
-// Answers that a reader gives have the place (and the budget) first in every case, so that each case lays them at the
-// same offset.
+// Answers are a `Result`; those that a reader gives have the place (and the budget) first in both cases.
 #![tactic(auto)]
 
 ghost use Rattle.std.specs.Prelude.{◌≡◌, ◌≤◌, ◌<◌};
@@ -11,45 +10,45 @@ ghost use Rattle.types.specs.Refusals.{refusal_number, no_room};
 ghost use Rattle.types.specs.Ways.{exact, unnamed_way};
 ghost use Rattle.types.specs.Counters.{place_in};
 
-// The type of an atom.
-#[derive(Clone, Copy)]
+// The type of an atom, by its code.
+#[derive(Clone, Copy, PartialEq, Eq, Debug)]
 pub enum Kind {
     // A value with a special meaning.
-    Special,
+    Special = 0,
     // A signed integer. The argument is the byte count, minus one.
-    Int,
+    Int = 1,
     // An unsigned integer. The argument is the byte count, minus one.
-    UInt,
+    UInt = 2,
     // A floating point value of 2, 4 or 8 bytes. The argument is the byte count, minus one.
-    Float,
+    Float = 3,
     // A list of atoms. The argument is their number.
-    Sequence,
+    Sequence = 4,
     // A list of key-value pairs. The argument is the number of pairs.
-    Map,
+    Map = 5,
     // A symbol, its header only.
-    Symbol,
+    Symbol = 6,
     // A series of bytes. The argument is their number.
-    Bytes,
+    Bytes = 7,
 }
 
-// A special value type.
-#[derive(Clone, Copy)]
+// A special value type, by its argument.
+#[derive(Clone, Copy, PartialEq, Eq, Debug)]
 pub enum Special {
-    None,
-    Unit,
-    False,
-    True,
+    None = 0,
+    Unit = 1,
+    False = 2,
+    True = 3,
     // A named value: a symbol, then another value.
-    Named,
+    Named = 4,
     // Key-value pairs of an unknown number.
-    DynamicMap,
+    DynamicMap = 5,
     // The end of a DynamicMap.
-    DynamicEnd,
+    DynamicEnd = 6,
 }
 
 // The way of reading. Filled reads zero past the end; exact refuses. A string is lent as a part of the source, or
 // copied into scratch; filled reading lends it.
-#[derive(Clone, Copy)]
+#[derive(Clone, Copy, PartialEq, Eq, Debug)]
 pub enum Way {
     Filled,
     ExactLent,
@@ -57,26 +56,26 @@ pub enum Way {
 }
 
 // A place in the file.
-#[derive(Clone, Copy)]
+#[derive(Clone, Copy, PartialEq, Eq, Debug)]
 pub struct Place(pub usize);
 
 // A number of body bytes: all after an atom's header.
-#[derive(Clone, Copy)]
+#[derive(Clone, Copy, PartialEq, Eq, Debug)]
 pub struct BodyBytes(pub u64);
 
 // What is left of the memory budget.
-#[derive(Clone, Copy)]
+#[derive(Clone, Copy, PartialEq, Eq, Debug)]
 pub struct Budget(pub u64);
 
 // A 128-bit value as two 64-bit words; of a signed value, its two's complement.
-#[derive(Clone, Copy)]
+#[derive(Clone, Copy, PartialEq, Eq, Debug)]
 pub struct Wide {
     pub lo: u64,
     pub hi: u64,
 }
 
 // An integer, by variant.
-#[derive(Clone, Copy)]
+#[derive(Clone, Copy, PartialEq, Eq, Debug)]
 pub enum Integer {
     I8(i8),
     I16(i16),
@@ -98,7 +97,7 @@ pub enum Float {
 }
 
 // Where a string's bytes are: a part of the source if lent, else of the scratch.
-#[derive(Clone, Copy)]
+#[derive(Clone, Copy, PartialEq, Eq, Debug)]
 pub struct Mark {
     pub start: usize,
     pub len: usize,
@@ -120,7 +119,7 @@ pub enum Nucleus {
 }
 
 // Where an atom stands in its source: its first place, the place where its body starts and the place after it.
-#[derive(Clone, Copy)]
+#[derive(Clone, Copy, PartialEq, Eq, Debug)]
 pub struct Places {
     pub first: Place,
     pub body: Place,
@@ -137,7 +136,7 @@ pub struct Atom {
 }
 
 // The refusals, in the order of their numbers from 1 on.
-#[derive(Clone, Copy)]
+#[derive(Clone, Copy, PartialEq, Eq, Debug)]
 pub enum Refusal {
     IncompatibleVersion,
     InvalidKind(u8),
@@ -152,95 +151,45 @@ pub enum Refusal {
     NotShortest,
 }
 
-#[derive(Clone, Copy)]
-pub enum KindAnswer {
-    Known(Kind),
-    Refused(Refusal),
-}
-
-#[derive(Clone, Copy)]
-pub enum SpecialAnswer {
-    Known(Special),
-    Refused(Refusal),
-}
-
-// What a writer answers: how many bytes it wrote.
-#[derive(Clone, Copy)]
-pub enum Written {
-    Count(usize),
-    Refused(Refusal),
-}
-
-#[derive(Clone, Copy)]
-pub enum HeaderAnswer {
-    Read(Place, Kind, u64),
-    Refused(Place, Refusal),
-}
+// What a reader answers of a header: the place after it, its kind and its argument; of a refused one the place that is
+// left and the refusal.
+pub type HeaderAnswer = Result<(Place, Kind, u64), (Place, Refusal)>;
 
 // What reading the signature answers: the version.
-#[derive(Clone, Copy)]
-pub enum VersionAnswer {
-    Read(Place, u8),
-    Refused(Place, Refusal),
-}
+pub type VersionAnswer = Result<(Place, u8), (Place, Refusal)>;
 
-#[derive(Clone, Copy)]
-pub enum IntegerAnswer {
-    Read(Place, Integer),
-    Refused(Place, Refusal),
-}
+pub type IntegerAnswer = Result<(Place, Integer), (Place, Refusal)>;
 
 // What reading a float answers: its value, and its stored bits.
-#[derive(Clone, Copy)]
-pub enum FloatAnswer {
-    Read(Place, Float, u64),
-    Refused(Place, Refusal),
-}
+pub type FloatAnswer = Result<(Place, Float, u64), (Place, Refusal)>;
 
 // What reading a string answers.
-#[derive(Clone, Copy)]
-pub enum BytesAnswer {
-    Read(Place, Mark),
-    Refused(Place, Refusal),
-}
+pub type BytesAnswer = Result<(Place, Mark), (Place, Refusal)>;
 
 // What a raw read into a lent buffer answers: how many bytes of the buffer it filled.
-#[derive(Clone, Copy)]
-pub enum RawAnswer {
-    Read(Place, usize),
-    Refused(Place, Refusal),
-}
+pub type RawAnswer = Result<(Place, usize), (Place, Refusal)>;
 
-#[derive(Clone, Copy)]
-pub enum AtomAnswer {
-    Read(Place, Budget, Atom),
-    Refused(Place, Budget, Refusal),
-}
-
-#[derive(Clone, Copy)]
-pub enum BudgetAnswer {
-    Left(Budget),
-    Refused(Refusal),
-}
+pub type AtomAnswer = Result<(Place, Budget, Atom), (Place, Budget, Refusal)>;
 
 // What the step that builds no value answers: the place after the atom, the budget left, the atom's places, and whether
 // it is a string.
-#[derive(Clone, Copy)]
-pub enum Skipped {
-    Past(Place, Budget, Places, bool),
-    Refused(Place, Budget, Refusal),
+pub type Skipped = Result<(Place, Budget, Places, bool), (Place, Budget, Refusal)>;
+
+// How far a run came: the place, the budget left, the number of atoms read and the places of the last of them, zeros if
+// there was none.
+#[derive(Clone, Copy, PartialEq, Eq, Debug)]
+pub struct Run {
+    pub place: Place,
+    pub budget: Budget,
+    pub atoms: u64,
+    pub last: Places,
 }
 
-// What a run answers: the place, the budget left, the number of atoms read and the places of the last of them, zeros if
-// there was none; of a refused atom also its refusal, and the place where it starts.
-#[derive(Clone, Copy)]
-pub enum Ran {
-    Done(Place, Budget, u64, Places),
-    Stopped(Place, Budget, u64, Places, Refusal, Place),
-}
+// What a run answers; of a refused atom also its refusal, and the place where it starts.
+pub type Ran = Result<Run, (Run, Refusal, Place)>;
 
 // What a file holds: its atoms, their body bytes, their charges and the letters of their strings.
-#[derive(Clone, Copy)]
+#[derive(Clone, Copy, PartialEq, Eq, Debug)]
 pub struct Tallied {
     pub atoms: u64,
     pub body: BodyBytes,
@@ -250,6 +199,7 @@ pub struct Tallied {
 
 // What a tally answers: the places of the last atom that it read, zeros if there was none; then what the file holds, or
 // of a refused atom its refusal and the place where it starts. An input that is too long is refused before any is read.
+// Of three cases, the last without a place, so that it has the shape of neither `Result` nor `Option`.
 #[derive(Clone, Copy)]
 pub enum TallyAnswer {
     Done(Places, Tallied),
@@ -258,106 +208,23 @@ pub enum TallyAnswer {
 }
 
 // What the check for shortest form answers: of a refused atom its refusal, and the place where it starts.
-#[derive(Clone, Copy)]
-pub enum Checked {
-    Accepted,
-    Refused(Refusal, Place),
-}
-
-#[derive(Clone, Copy)]
-pub enum AsI8 {
-    Value(i8),
-    Refused(Refusal),
-}
-
-#[derive(Clone, Copy)]
-pub enum AsI16 {
-    Value(i16),
-    Refused(Refusal),
-}
-
-#[derive(Clone, Copy)]
-pub enum AsI32 {
-    Value(i32),
-    Refused(Refusal),
-}
-
-#[derive(Clone, Copy)]
-pub enum AsI64 {
-    Value(i64),
-    Refused(Refusal),
-}
-
-// A 128-bit value, signed or unsigned.
-#[derive(Clone, Copy)]
-pub enum AsWide {
-    Value(Wide),
-    Refused(Refusal),
-}
-
-#[derive(Clone, Copy)]
-pub enum AsU8 {
-    Value(u8),
-    Refused(Refusal),
-}
-
-#[derive(Clone, Copy)]
-pub enum AsU16 {
-    Value(u16),
-    Refused(Refusal),
-}
-
-#[derive(Clone, Copy)]
-pub enum AsU32 {
-    Value(u32),
-    Refused(Refusal),
-}
-
-#[derive(Clone, Copy)]
-pub enum AsU64 {
-    Value(u64),
-    Refused(Refusal),
-}
-
-#[derive(Clone, Copy)]
-pub enum AsF32 {
-    Value(f32),
-    Refused(Refusal),
-}
-
-#[derive(Clone, Copy)]
-pub enum AsF64 {
-    Value(f64),
-    Refused(Refusal),
-}
-
-#[derive(Clone, Copy)]
-pub enum AsFloat {
-    Value(Float),
-    Refused(Refusal),
-}
-
-#[derive(Clone, Copy)]
-pub enum AsInteger {
-    Value(Integer),
-    Refused(Refusal),
-}
+pub type Checked = Result<(), (Refusal, Place)>;
 
 impl Kind {
-    // Converts from a code; refusal 2 of one that no kind has.
-    pub fn from_u8(kind: u8) -> KindAnswer
+    // Converts from a code; refusal 2 of one that no kind has. By the original's name, and not as `TryFrom`.
+    pub fn from_u8(kind: u8) -> Result<Kind, Refusal>
         ensures { result ≡ kind_from kind }
     {
         match kind {
-            0 => KindAnswer::Known(Kind::Special),
-            1 => KindAnswer::Known(Kind::Int),
-            2 => KindAnswer::Known(Kind::UInt),
-            3 => KindAnswer::Known(Kind::Float),
-            4 => KindAnswer::Known(Kind::Sequence),
-            5 => KindAnswer::Known(Kind::Map),
-            6 => KindAnswer::Known(Kind::Symbol),
-            7 => KindAnswer::Known(Kind::Bytes),
-            _ => KindAnswer::Refused(Refusal::InvalidKind(kind)),
+            0 => Ok(Kind::Special),
+            1 => Ok(Kind::Int),
+            2 => Ok(Kind::UInt),
+            3 => Ok(Kind::Float),
+            4 => Ok(Kind::Sequence),
+            5 => Ok(Kind::Map),
+            6 => Ok(Kind::Symbol),
+            7 => Ok(Kind::Bytes),
+            _ => Err(Refusal::InvalidKind(kind)),
         }
     }
 
@@ -365,49 +232,36 @@ impl Kind {
     pub fn code(self) -> u8
         ensures { (result ≡ kind_code self) × (result < 8) }
     {
-        match self {
-            Kind::Special => 0,
-            Kind::Int => 1,
-            Kind::UInt => 2,
-            Kind::Float => 3,
-            Kind::Sequence => 4,
-            Kind::Map => 5,
-            Kind::Symbol => 6,
-            Kind::Bytes => 7,
+        self as u8
+    }
+}
+
+impl TryFrom<u64> for Special {
+    type Error = Refusal;
+
+    ghost try_from_gives = { λ value answer. answer ≡ special_from value };
+
+    // Converts from an argument; refusal 3 of one that no special has.
+    fn try_from(value: u64) -> Result<Special, Refusal> {
+        match value {
+            0 => Ok(Special::None),
+            1 => Ok(Special::Unit),
+            2 => Ok(Special::False),
+            3 => Ok(Special::True),
+            4 => Ok(Special::Named),
+            5 => Ok(Special::DynamicMap),
+            6 => Ok(Special::DynamicEnd),
+            _ => Err(Refusal::UnknownSpecial(value)),
         }
     }
 }
 
 impl Special {
-    // Converts from an argument; refusal 3 of one that no special has.
-    pub fn try_from(value: u64) -> SpecialAnswer
-        ensures { result ≡ special_from value }
-    {
-        match value {
-            0 => SpecialAnswer::Known(Special::None),
-            1 => SpecialAnswer::Known(Special::Unit),
-            2 => SpecialAnswer::Known(Special::False),
-            3 => SpecialAnswer::Known(Special::True),
-            4 => SpecialAnswer::Known(Special::Named),
-            5 => SpecialAnswer::Known(Special::DynamicMap),
-            6 => SpecialAnswer::Known(Special::DynamicEnd),
-            _ => SpecialAnswer::Refused(Refusal::UnknownSpecial(value)),
-        }
-    }
-
     // The argument of a special.
     pub fn code(self) -> u64
         ensures { result ≡ special_code self }
     {
-        match self {
-            Special::None => 0,
-            Special::Unit => 1,
-            Special::False => 2,
-            Special::True => 3,
-            Special::Named => 4,
-            Special::DynamicMap => 5,
-            Special::DynamicEnd => 6,
-        }
+        self as u64
     }
 }
 

@@ -1,4 +1,5 @@
 -- The ends of the functions that say an answer: what is said of the parts is said of the answer.
+use Rattle.std.specs.Prelude.{Option, Some, None}
 use mathlib.Core.Path.{◌≡◌, refl, ◌∙◌, sym, ap}
 use mathlib.Core.Bool.{true}
 use mathlib.Core.List.{List}
@@ -14,9 +15,6 @@ use Rattle.types.specs.declared.Integer.{Integer}
 use Rattle.words.specs.declared.IntegerWords.{IntegerWords}
 use Rattle.words.specs.declared.NucleusWords.{NucleusWords}
 use Rattle.types.specs.declared.Refusal.TheVariants as R
-use Rattle.binary.specs.Conversions.{Narrowed, kept, lost, answer32}
-use Rattle.binary.specs.declared.Narrowed32.{Narrowed32}
-use Rattle.binary.specs.declared.Narrowed32.TheVariants as N
 use Rattle.words.specs.Layout.{Said, word_count, laid, number_of, words_of, variant_code, integer_words}
 use Rattle.words.specs.Layout.{said_word, said_refused, said_narrowed}
 
@@ -74,16 +72,16 @@ module _ {X : Type 0} (said : X → Said) (answer : X) (old : List ℕ) where
     words_said new a b c d e f g h i j k t s = words_told new a b c d e f g h i j k t (rw is s)
 
 -- what the machine's narrowing says is said of the narrowing
-abbrev pub said_pattern : Narrowed32 → Said
-said_pattern (N.Pattern q) = said_word q
-said_pattern N.None = said_refused R.ImpreciseCastWouldLoseData
+abbrev pub said_pattern : Option ℕ → Said
+said_pattern (Some q) = said_word q
+said_pattern None = said_refused R.ImpreciseCastWouldLoseData
 
-same_narrowed : (n : Narrowed) → said_pattern (answer32 n) ≡ said_narrowed n
+same_narrowed : (n : Option ℕ) → said_pattern (n) ≡ said_narrowed n
 unfolding said_narrowed
-same_narrowed (kept q) = refl
-same_narrowed lost = refl
+same_narrowed (Some q) = refl
+same_narrowed None = refl
 
-module _ (n : Narrowed) (told case : Narrowed32) (e : told ≡ answer32 n) (is : told ≡ case) (old : List ℕ) where
+module _ (n : Option ℕ) (told case : Option ℕ) (e : told ≡ n) (is : told ≡ case) (old : List ℕ) where
   same : said_pattern case ≡ said_narrowed n
   same = ap said_pattern (sym is ∙ e) ∙ same_narrowed n
 

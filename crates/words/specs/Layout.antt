@@ -2,9 +2,11 @@
 -- the refusal's number of document 01, and twelve words beside it, zeros where nothing is said. "If an answer is an
 -- enum, a definition tells you this paper's number and values for each of its cases." Words 8, 9 and 10 are the three
 -- places of an atom (document 02, K1), and word 11 is kept for what is to come.
-use Rattle.std.specs.Prelude.{ℕ, ◌%◌, ◌^◌, Bool, List, [], ◌∷◌, ◌++◌, ltb, eqb, length, drop, get_or}
+use Rattle.std.specs.Prelude.{ℕ, ◌%◌, ◌^◌, Bool, List, [], ◌∷◌, ◌++◌, ltb, eqb, length, drop, get_or, Result, Ok, Err, Option, Some, None}
 use Rattle.std.specs.Float.{binary32, binary64}
 use Rattle.std.specs.Float.Ieee.{to_bits}
+use Rattle.std.specs.Float.Ieee as Ieee
+use Rattle.types.specs.Answers.{AtomAnswer, Checked, Ran, Skipped, VersionAnswer}
 use Rattle.types.specs.Choice.{pick}
 use Rattle.types.specs.Counters.{no_places}
 use Rattle.types.specs.Kinds.{kind_code}
@@ -17,30 +19,11 @@ use Rattle.types.specs.declared.Float.{Float}
 use Rattle.types.specs.declared.Float.TheVariants as F
 use Rattle.types.specs.declared.Nucleus.{Nucleus}
 use Rattle.types.specs.declared.Nucleus.TheVariants as N
-use Rattle.types.specs.declared.AtomAnswer.{AtomAnswer}
-use Rattle.types.specs.declared.AtomAnswer.TheVariants as A
-use Rattle.types.specs.declared.Skipped.{Skipped}
-use Rattle.types.specs.declared.Skipped.TheVariants as SK
-use Rattle.types.specs.declared.Ran.{Ran}
-use Rattle.types.specs.declared.Ran.TheVariants as RN
 use Rattle.types.specs.declared.TallyAnswer.{TallyAnswer}
 use Rattle.types.specs.declared.TallyAnswer.TheVariants as TA
-use Rattle.types.specs.declared.Checked.{Checked}
-use Rattle.types.specs.declared.Checked.TheVariants as C
-use Rattle.types.specs.declared.VersionAnswer.{VersionAnswer}
-use Rattle.types.specs.declared.VersionAnswer.TheVariants as VA
-use Rattle.types.specs.declared.Written.{Written}
-use Rattle.types.specs.declared.Written.TheVariants as W
 use Rattle.words.specs.declared.IntegerWords.{IntegerWords}
 use Rattle.words.specs.declared.NucleusWords.{NucleusWords}
 use Rattle.types.specs.Values.{value, wide_of}
-use Rattle.types.specs.declared.AsInteger.{AsInteger}
-use Rattle.types.specs.declared.AsInteger.TheVariants as In
-use Rattle.types.specs.declared.AsF32.{AsF32}
-use Rattle.types.specs.declared.AsF32.TheVariants as F32
-use Rattle.types.specs.declared.AsF64.{AsF64}
-use Rattle.types.specs.declared.AsF64.TheVariants as F64
-use Rattle.binary.specs.Conversions.{Narrowed, kept, lost}
 use Rattle.types.specs.declared.Refusal.TheVariants as R
 use Rattle.binary.specs.Formats.{half, single}
 use Rattle.binary.specs.Conversions.{widened}
@@ -140,23 +123,23 @@ atom_said place budget kind arg w first body =
     laid 0 place budget kind arg w.case w.first w.second w.third first body place
 
 unfoldable pub said_atom : AtomAnswer → Said
-said_atom (A.Read p b x) =
+said_atom (Ok (p, b, x)) =
     atom_said p.0 b.0 (kind_code x.kind) x.arg (nucleus_words x.arg x.nucleus) x.places.first.0
     x.places.body.0
-said_atom (A.Refused p b r) = says (refusal_number r) p.0 b.0 (datum 0 r) (datum 1 r) 0 0 0 0
+said_atom (Err (p, b, r)) = says (refusal_number r) p.0 b.0 (datum 0 r) (datum 1 r) 0 0 0 0
 
 -- one atom skipped: place, budget; where its body starts, 1 if it is a string, and its places; or the refusal's data
 unfoldable pub said_skipped : Skipped → Said
-said_skipped (SK.Past p b places string) =
+said_skipped (Ok (p, b, places, string)) =
     says_at 0 p.0 b.0 places.body.0 (pick string 1 0) 0 0 0 0 places
-said_skipped (SK.Refused p b r) = says (refusal_number r) p.0 b.0 (datum 0 r) (datum 1 r) 0 0 0 0
+said_skipped (Err (p, b, r)) = says (refusal_number r) p.0 b.0 (datum 0 r) (datum 1 r) 0 0 0 0
 
 -- a run: place, budget, atoms, and the places of the last of them; of a refused atom also where it starts, and the
 -- refusal's data
 unfoldable pub said_ran : Ran → Said
-said_ran (RN.Done p b atoms last) = says_at 0 p.0 b.0 atoms 0 0 0 0 0 last
-said_ran (RN.Stopped p b atoms last r start) =
-    says_at (refusal_number r) p.0 b.0 atoms start.0 (datum 0 r) (datum 1 r) 0 0 last
+said_ran (Ok run) = says_at 0 run.place.0 run.budget.0 run.atoms 0 0 0 0 0 run.last
+said_ran (Err (run, r, start)) =
+    says_at (refusal_number r) run.place.0 run.budget.0 run.atoms start.0 (datum 0 r) (datum 1 r) 0 0 run.last
 
 -- a tally: atoms, body bytes, charge, letters; or where the refused atom starts, 0 where the input is refused as a
 -- whole, and the refusal's data; either way the places of the last atom that was read
@@ -167,22 +150,22 @@ said_tally (TA.Refused last r) = says_at (refusal_number r) 0 (datum 0 r) (datum
 
 -- a check for shortest form: nothing, or where the refused atom starts, and the refusal's data
 unfoldable pub said_checked : Checked → Said
-said_checked C.Accepted = says 0 0 0 0 0 0 0 0 0
-said_checked (C.Refused r start) = says (refusal_number r) start.0 (datum 0 r) (datum 1 r) 0 0 0 0 0
+said_checked (Ok tt) = says 0 0 0 0 0 0 0 0 0
+said_checked (Err (r, start)) = says (refusal_number r) start.0 (datum 0 r) (datum 1 r) 0 0 0 0 0
 
 -- a signature: place and version, or place
 unfoldable pub said_version : VersionAnswer → Said
-said_version (VA.Read p version) = says 0 p.0 version 0 0 0 0 0 0
-said_version (VA.Refused p r) = says (refusal_number r) p.0 0 0 0 0 0 0 0
+said_version (Ok (p, version)) = says 0 p.0 version 0 0 0 0 0 0
+said_version (Err (p, r)) = says (refusal_number r) p.0 0 0 0 0 0 0 0
 
 -- a refusal alone: its data
 abbrev pub said_refused : Refusal → Said
 said_refused r = says (refusal_number r) (datum 0 r) (datum 1 r) 0 0 0 0 0 0
 
 -- a write: how many bytes
-unfoldable pub said_written : Written → Said
-said_written (W.Count n) = says 0 n 0 0 0 0 0 0 0
-said_written (W.Refused r) = said_refused r
+unfoldable pub said_written : Result ℕ Refusal → Said
+said_written (Ok n) = says 0 n 0 0 0 0 0 0 0
+said_written (Err r) = said_refused r
 
 -- one word
 abbrev pub said_word : ℕ → Said
@@ -193,25 +176,25 @@ abbrev pub said_integer : Integer → Said
 said_integer x = says 0 (variant_code x) (wide_of (value x)).lo (wide_of (value x)).hi 0 0 0 0 0
 
 -- a cast to an integer
-unfoldable pub said_as_integer : AsInteger → Said
-said_as_integer (In.Value x) = said_integer x
-said_as_integer (In.Refused r) = said_refused r
+unfoldable pub said_as_integer : Result Integer Refusal → Said
+said_as_integer (Ok x) = said_integer x
+said_as_integer (Err r) = said_refused r
 
 -- a cast to an integer of a known variant: the low and the high word of its value
-unfoldable pub said_cast : AsInteger → Said
-said_cast (In.Value x) = says 0 (wide_of (value x)).lo (wide_of (value x)).hi 0 0 0 0 0 0
-said_cast (In.Refused r) = said_refused r
+unfoldable pub said_cast : Result Integer Refusal → Said
+said_cast (Ok x) = says 0 (wide_of (value x)).lo (wide_of (value x)).hi 0 0 0 0 0 0
+said_cast (Err r) = said_refused r
 
 -- casts to a float: its bits
-unfoldable pub said_as_f32 : AsF32 → Said
-said_as_f32 (F32.Value x) = said_word (to_bits binary32 x)
-said_as_f32 (F32.Refused r) = said_refused r
+unfoldable pub said_as_f32 : Result Ieee.Float Refusal → Said
+said_as_f32 (Ok x) = said_word (to_bits binary32 x)
+said_as_f32 (Err r) = said_refused r
 
-unfoldable pub said_as_f64 : AsF64 → Said
-said_as_f64 (F64.Value x) = said_word (to_bits binary64 x)
-said_as_f64 (F64.Refused r) = said_refused r
+unfoldable pub said_as_f64 : Result Ieee.Float Refusal → Said
+said_as_f64 (Ok x) = said_word (to_bits binary64 x)
+said_as_f64 (Err r) = said_refused r
 
 -- "`as_f32` of an F64 needs an equal value": its bits, or refusal 8
-unfoldable pub said_narrowed : Narrowed → Said
-said_narrowed (kept q) = said_word q
-said_narrowed lost = said_refused R.ImpreciseCastWouldLoseData
+unfoldable pub said_narrowed : Option ℕ → Said
+said_narrowed (Some q) = said_word q
+said_narrowed None = said_refused R.ImpreciseCastWouldLoseData

@@ -9,10 +9,9 @@ ghost use Rattle.words.specs.Layout.{said_atom, said_skipped, said_ran, said_tal
 ghost use Rattle.binary.specs.Formats.{single, double};
 ghost use Rattle.binary.specs.Conversions.{narrowed};
 
-use binary::Narrowed32;
 use types::{
-    AsF32, AsF64, AsInteger, AtomAnswer, Checked, Float, Integer, Nucleus, Places, Ran, Refusal,
-    Skipped, TallyAnswer, VersionAnswer, Wide, Written,
+    AtomAnswer, Checked, Float, Integer, Nucleus, Places, Ran, Refusal, Skipped, TallyAnswer,
+    VersionAnswer, Wide,
 };
 
 // An integer: its variant, and its value in two's complement.
@@ -34,7 +33,8 @@ pub struct NucleusWords {
 // How many words an answer has.
 pub const WORD_COUNT: usize = 12;
 
-// An answer's number and its words: refusal 9, and nothing is stored, where the array is shorter.
+// An answer's number and its words: refusal 9, and nothing is stored, where the array is shorter. The words are
+// parameters, and no array, since docs/PROMISES.md has this function and `say` as they are.
 pub fn say_all(
     words: &mut [u64],
     number: u64,
@@ -111,41 +111,22 @@ fn say_at(
     say_all(words, number, a, b, c, d, e, f, 0, 0, first, body, after)
 }
 
-// The first of a refusal's data.
-fn first_datum(refusal: Refusal) -> u64
-    ensures { result ≡ datum 0 refusal }
+// A refusal's data, zeros where it has fewer than two.
+fn data(refusal: Refusal) -> (u64, u64)
+    ensures { (result.0 ≡ datum 0 refusal) × (result.1 ≡ datum 1 refusal) }
 {
     match refusal {
-        Refusal::IncompatibleVersion => 0,
-        Refusal::InvalidKind(code) => code as u64,
-        Refusal::UnknownSpecial(value) => value,
-        Refusal::Eof => 0,
-        Refusal::TooManyBytesRead => 0,
-        Refusal::UnsupportedByteCount(kind, _) => kind.code() as u64,
-        Refusal::UnexpectedKind(kind, _) => kind.code() as u64,
-        Refusal::ImpreciseCastWouldLoseData => 0,
-        Refusal::NoRoom => 0,
-        Refusal::TooLong => 0,
-        Refusal::NotShortest => 0,
-    }
-}
-
-// The second of a refusal's data.
-fn second_datum(refusal: Refusal) -> u64
-    ensures { result ≡ datum 1 refusal }
-{
-    match refusal {
-        Refusal::IncompatibleVersion => 0,
-        Refusal::InvalidKind(_) => 0,
-        Refusal::UnknownSpecial(_) => 0,
-        Refusal::Eof => 0,
-        Refusal::TooManyBytesRead => 0,
-        Refusal::UnsupportedByteCount(_, count) => count,
-        Refusal::UnexpectedKind(_, wanted) => wanted.code() as u64,
-        Refusal::ImpreciseCastWouldLoseData => 0,
-        Refusal::NoRoom => 0,
-        Refusal::TooLong => 0,
-        Refusal::NotShortest => 0,
+        Refusal::IncompatibleVersion => (0, 0),
+        Refusal::InvalidKind(code) => (code as u64, 0),
+        Refusal::UnknownSpecial(value) => (value, 0),
+        Refusal::Eof => (0, 0),
+        Refusal::TooManyBytesRead => (0, 0),
+        Refusal::UnsupportedByteCount(kind, count) => (kind.code() as u64, count),
+        Refusal::UnexpectedKind(kind, wanted) => (kind.code() as u64, wanted.code() as u64),
+        Refusal::ImpreciseCastWouldLoseData => (0, 0),
+        Refusal::NoRoom => (0, 0),
+        Refusal::TooLong => (0, 0),
+        Refusal::NotShortest => (0, 0),
     }
 }
 
@@ -255,7 +236,7 @@ pub fn say_atom(words: &mut [u64], answer: AtomAnswer) -> u64
     ensures words_after { words.new ≡ words_of (said_atom answer) words.old }
 {
     match answer {
-        AtomAnswer::Read(place, budget, atom) => {
+        Ok((place, budget, atom)) => {
             let arg = atom.arg;
             let kind = atom.kind;
             let code = kind.code() as u64;
@@ -277,10 +258,9 @@ pub fn say_atom(words: &mut [u64], answer: AtomAnswer) -> u64
                 place.0 as u64,
             );
         }
-        AtomAnswer::Refused(place, budget, refusal) => {
+        Err((place, budget, refusal)) => {
             let at = place.0 as u64;
-            let first = first_datum(refusal);
-            let second = second_datum(refusal);
+            let (first, second) = data(refusal);
             let number = refusal.number();
             return say(words, number, at, budget.0, first, second, 0, 0, 0, 0);
         }
@@ -293,15 +273,14 @@ pub fn say_skipped(words: &mut [u64], answer: Skipped) -> u64
     ensures words_after { words.new ≡ words_of (said_skipped answer) words.old }
 {
     match answer {
-        Skipped::Past(place, budget, places, string) => {
+        Ok((place, budget, places, string)) => {
             let is_string = bit(string);
             let body = places.body.0 as u64;
             let at = place.0 as u64;
             return say_at(words, 0, at, budget.0, body, is_string, 0, 0, places);
         }
-        Skipped::Refused(place, budget, refusal) => {
-            let first = first_datum(refusal);
-            let second = second_datum(refusal);
+        Err((place, budget, refusal)) => {
+            let (first, second) = data(refusal);
             return say(
                 words,
                 refusal.number(),
@@ -324,24 +303,23 @@ pub fn say_ran(words: &mut [u64], answer: Ran) -> u64
     ensures words_after { words.new ≡ words_of (said_ran answer) words.old }
 {
     match answer {
-        Ran::Done(place, budget, atoms, last) => {
-            let at = place.0 as u64;
-            return say_at(words, 0, at, budget.0, atoms, 0, 0, 0, last);
+        Ok(run) => {
+            let at = run.place.0 as u64;
+            return say_at(words, 0, at, run.budget.0, run.atoms, 0, 0, 0, run.last);
         }
-        Ran::Stopped(place, budget, atoms, last, refusal, start) => {
-            let first = first_datum(refusal);
-            let second = second_datum(refusal);
+        Err((run, refusal, start)) => {
+            let (first, second) = data(refusal);
             let number = refusal.number();
             return say_at(
                 words,
                 number,
-                place.0 as u64,
-                budget.0,
-                atoms,
+                run.place.0 as u64,
+                run.budget.0,
+                run.atoms,
                 start.0 as u64,
                 first,
                 second,
-                last,
+                run.last,
             );
         }
     }
@@ -359,14 +337,12 @@ pub fn say_tally(words: &mut [u64], answer: TallyAnswer) -> u64
         }
         TallyAnswer::Stopped(last, refusal, start) => {
             let at = start.0 as u64;
-            let first = first_datum(refusal);
-            let second = second_datum(refusal);
+            let (first, second) = data(refusal);
             let number = refusal.number();
             return say_at(words, number, at, first, second, 0, 0, 0, last);
         }
         TallyAnswer::Refused(last, refusal) => {
-            let first = first_datum(refusal);
-            let second = second_datum(refusal);
+            let (first, second) = data(refusal);
             let number = refusal.number();
             return say_at(words, number, 0, first, second, 0, 0, 0, last);
         }
@@ -379,11 +355,10 @@ pub fn say_checked(words: &mut [u64], answer: Checked) -> u64
     ensures words_after { words.new ≡ words_of (said_checked answer) words.old }
 {
     match answer {
-        Checked::Accepted => return say(words, 0, 0, 0, 0, 0, 0, 0, 0, 0),
-        Checked::Refused(refusal, start) => {
+        Ok(()) => return say(words, 0, 0, 0, 0, 0, 0, 0, 0, 0),
+        Err((refusal, start)) => {
             let at = start.0 as u64;
-            let first = first_datum(refusal);
-            let second = second_datum(refusal);
+            let (first, second) = data(refusal);
             return say(words, refusal.number(), at, first, second, 0, 0, 0, 0, 0);
         }
     }
@@ -395,10 +370,10 @@ pub fn say_version(words: &mut [u64], answer: VersionAnswer) -> u64
     ensures words_after { words.new ≡ words_of (said_version answer) words.old }
 {
     match answer {
-        VersionAnswer::Read(place, version) => {
+        Ok((place, version)) => {
             return say(words, 0, place.0 as u64, version as u64, 0, 0, 0, 0, 0, 0);
         }
-        VersionAnswer::Refused(place, refusal) => {
+        Err((place, refusal)) => {
             return say(words, refusal.number(), place.0 as u64, 0, 0, 0, 0, 0, 0, 0);
         }
     }
@@ -409,19 +384,18 @@ pub fn say_refused(words: &mut [u64], refusal: Refusal) -> u64
     ensures value { result ≡ number_of (said_refused refusal) words.old }
     ensures words_after { words.new ≡ words_of (said_refused refusal) words.old }
 {
-    let first = first_datum(refusal);
-    let second = second_datum(refusal);
+    let (first, second) = data(refusal);
     say(words, refusal.number(), first, second, 0, 0, 0, 0, 0, 0)
 }
 
 // A write.
-pub fn say_written(words: &mut [u64], answer: Written) -> u64
+pub fn say_written(words: &mut [u64], answer: Result<usize, Refusal>) -> u64
     ensures value { result ≡ number_of (said_written answer) words.old }
     ensures words_after { words.new ≡ words_of (said_written answer) words.old }
 {
     match answer {
-        Written::Count(count) => return say(words, 0, count as u64, 0, 0, 0, 0, 0, 0, 0),
-        Written::Refused(refusal) => return say_refused(words, refusal),
+        Ok(count) => return say(words, 0, count as u64, 0, 0, 0, 0, 0, 0, 0),
+        Err(refusal) => return say_refused(words, refusal),
     }
 }
 
@@ -446,27 +420,27 @@ pub fn say_integer(words: &mut [u64], x: Integer) -> u64
 }
 
 // A cast to an integer.
-pub fn say_as_integer(words: &mut [u64], answer: AsInteger) -> u64
+pub fn say_as_integer(words: &mut [u64], answer: Result<Integer, Refusal>) -> u64
     ensures value { result ≡ number_of (said_as_integer answer) words.old }
     ensures words_after { words.new ≡ words_of (said_as_integer answer) words.old }
 {
     match answer {
-        AsInteger::Value(x) => return say_integer(words, x),
-        AsInteger::Refused(refusal) => return say_refused(words, refusal),
+        Ok(x) => return say_integer(words, x),
+        Err(refusal) => return say_refused(words, refusal),
     }
 }
 
 // A cast to an integer of a known variant.
-pub fn say_cast(words: &mut [u64], answer: AsInteger) -> u64
+pub fn say_cast(words: &mut [u64], answer: Result<Integer, Refusal>) -> u64
     ensures value { result ≡ number_of (said_cast answer) words.old }
     ensures words_after { words.new ≡ words_of (said_cast answer) words.old }
 {
     match answer {
-        AsInteger::Value(x) => {
+        Ok(x) => {
             let said = integer_words(x);
             return say(words, 0, said.value.lo, said.value.hi, 0, 0, 0, 0, 0, 0);
         }
-        AsInteger::Refused(refusal) => return say_refused(words, refusal),
+        Err(refusal) => return say_refused(words, refusal),
     }
 }
 
@@ -479,30 +453,30 @@ pub fn say_word(words: &mut [u64], word: u64) -> u64
 }
 
 // A cast to an f32.
-pub fn say_as_f32(words: &mut [u64], answer: AsF32) -> u64
+pub fn say_as_f32(words: &mut [u64], answer: Result<f32, Refusal>) -> u64
     ensures value { result ≡ number_of (said_as_f32 answer) words.old }
     ensures words_after { words.new ≡ words_of (said_as_f32 answer) words.old }
 {
     match answer {
-        AsF32::Value(x) => {
+        Ok(x) => {
             let bits = binary::f32_pattern(x);
             return say_word(words, bits as u64);
         }
-        AsF32::Refused(refusal) => return say_refused(words, refusal),
+        Err(refusal) => return say_refused(words, refusal),
     }
 }
 
 // A cast to an f64.
-pub fn say_as_f64(words: &mut [u64], answer: AsF64) -> u64
+pub fn say_as_f64(words: &mut [u64], answer: Result<f64, Refusal>) -> u64
     ensures value { result ≡ number_of (said_as_f64 answer) words.old }
     ensures words_after { words.new ≡ words_of (said_as_f64 answer) words.old }
 {
     match answer {
-        AsF64::Value(x) => {
+        Ok(x) => {
             let bits = binary::f64_pattern(x);
             return say_word(words, bits);
         }
-        AsF64::Refused(refusal) => return say_refused(words, refusal),
+        Err(refusal) => return say_refused(words, refusal),
     }
 }
 
@@ -512,7 +486,7 @@ pub fn say_narrowed(words: &mut [u64], bits: u64) -> u64
     ensures words_after { words.new ≡ words_of (said_narrowed (narrowed double single bits)) words.old }
 {
     match binary::f64_to_f32_bits(bits) {
-        Narrowed32::Pattern(q) => return say_word(words, q as u64),
-        Narrowed32::None => return say_refused(words, Refusal::ImpreciseCastWouldLoseData),
+        Some(q) => return say_word(words, q as u64),
+        None => return say_refused(words, Refusal::ImpreciseCastWouldLoseData),
     }
 }

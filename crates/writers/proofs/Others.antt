@@ -1,45 +1,27 @@
 -- The ends of the writers of specials, of an integer of any variant, and of strings.
+use Rattle.std.specs.Prelude.{Ok, Err}
 use mathlib.Core.Path.{◌≡◌, ◌∙◌, sym, ap}
-use mathlib.Core.Bool.{Bool, true, false}
 use mathlib.Core.List.{List, ◌++◌}
 use Prim.Native.Nat.{ℕ, ◌+◌, ◌-◌, ◌≤◌, ◌<◌}
 use native.Mathlib.Omega.{arith}
 use borrow.Author.Rules.{rules}
 use lib.ListN.{length, take, drop, length-append}
-use Rattle.types.specs.Kinds.{special_code}
 use Rattle.types.specs.Refusals.{no_room}
 use Rattle.types.specs.declared.Kind.{Kind}
 use Rattle.types.specs.declared.Kind.TheVariants as K
-use Rattle.types.specs.declared.Special.{Special}
-use Rattle.types.specs.declared.Special.TheVariants as S
 use Rattle.types.specs.declared.Integer.{Integer}
 use Rattle.types.specs.declared.Refusal.{Refusal}
-use Rattle.types.specs.declared.Written.TheVariants as W
 use Rattle.lent.specs.Lent.{written_answer, written_content, copied_over}
 use Rattle.lent.proofs.Stores.{headed, answer_short, content_short, answer_room, content_room}
 use Rattle.header.specs.Header.{header_bytes}
-use Rattle.writers.specs.Bytes.{value_bytes, special_bytes, truth, bytes_bytes}
+use Rattle.writers.specs.Bytes.{value_bytes, bytes_bytes}
 use Rattle.writers.proofs.Wrote.{writes}
 use Rattle.writers.proofs.Ends.{given_same}
-
--- the header of a special's code
-pub of_code : (special : Special) (code : ℕ) → code ≡ special_code special →
-    header_bytes K.Special code ≡ special_bytes special
-of_code special code e = ap (header_bytes K.Special) e
-
--- the special of a truth value that was tested
-pub of_true : (boolean : Bool) → boolean ≡ true → special_bytes S.True ≡ special_bytes (truth boolean)
-of_true boolean e = rw e
-
-pub of_false : (boolean : Bool) → boolean ≡ false → special_bytes S.False ≡ special_bytes (truth boolean)
-of_false boolean e = rw e
 
 -- an integer that is of this variant
 pub of_variant : (integer variant : Integer) (bytes : List ℕ) → integer ≡ variant → bytes ≡ value_bytes variant →
     bytes ≡ value_bytes integer
 of_variant integer variant bytes e b = b ∙ ap value_bytes (sym e)
-
-pub ruleset special_ends = (of_code, of_true, of_false, writes, rules)
 
 pub ruleset variant_ends = (of_variant, given_same, writes, rules)
 
@@ -51,17 +33,17 @@ module _ (value old : List ℕ) (head : ℕ) (h : (kind : Kind) → head ≡ len
   -- no room for both
   module _ (short : length old < head + length value) where
     pub string_refused : (why : Refusal) → why ≡ no_room (head + length value) →
-        W.Refused why ≡ written_answer (bytes_bytes value) old
+        Err why ≡ written_answer (bytes_bytes value) old
     string_refused why e =
-        ap W.Refused (e ∙ ap no_room whole) ∙ sym (answer_short (bytes_bytes value) old (rw (← whole) short))
+        ap Err (e ∙ ap no_room whole) ∙ sym (answer_short (bytes_bytes value) old (rw (← whole) short))
 
     pub string_kept : old ≡ written_content (bytes_bytes value) old
     string_kept = sym (content_short (bytes_bytes value) old (rw (← whole) short))
 
   -- the header is written, and the string in the part after it
   module _ (room : head + length value ≤ length old) where
-    pub string_counted : W.Count (head + length value) ≡ written_answer (bytes_bytes value) old
-    string_counted = ap W.Count whole ∙ sym (answer_room (bytes_bytes value) old (rw (← whole) room))
+    pub string_counted : Ok (head + length value) ≡ written_answer (bytes_bytes value) old
+    string_counted = ap Ok whole ∙ sym (answer_room (bytes_bytes value) old (rw (← whole) room))
 
     pub string_filled : (begun part : List ℕ) → begun ≡ written_content (header_bytes K.Bytes (length value)) old →
         part ≡ copied_over value (take (length begun - head) (drop head begun)) →

@@ -1,5 +1,6 @@
 -- What the number and special writers write. Document 01, "Bytes of an atom" and "Refusals by number".
-use Rattle.std.specs.Prelude.{ℕ, ◌-◌, Bool, List, ◌++◌, ℤ, length}
+use Rattle.std.specs.Prelude.{ℕ, ◌-◌, Bool, List, ◌++◌, ℤ, length, Result, Err}
+use Rattle.types.specs.declared.Refusal.{Refusal}
 use Rattle.types.specs.Choice.{pick}
 use Rattle.types.specs.Kinds.{special_code}
 use Rattle.types.specs.Values.{joined, joined_signed}
@@ -10,8 +11,6 @@ use Rattle.types.specs.declared.Special.TheVariants as S
 use Rattle.types.specs.declared.Integer.{Integer}
 use Rattle.types.specs.declared.Integer.TheVariants as I
 use Rattle.types.specs.declared.Refusal.TheVariants as R
-use Rattle.types.specs.declared.Written.{Written}
-use Rattle.types.specs.declared.Written.TheVariants as W
 use Rattle.lent.specs.Lent.{written_answer, written_content}
 use Rattle.header.specs.Header.{header_bytes}
 use Rattle.little.specs.Le.{to_le}
@@ -55,8 +54,8 @@ abbrev pub bytes_bytes : List ℕ → List ℕ
 bytes_bytes value = header_bytes K.Bytes (length value) ++ value
 
 -- "8 ImpreciseCastWouldLoseData: value outside a 24 or 48 bit writer"; "Refusal 8 comes before 9."
-abbrev pub held_answer : Bool → List ℕ → List ℕ → Written
-held_answer held bytes old = pick held (written_answer bytes old) (W.Refused R.ImpreciseCastWouldLoseData)
+abbrev pub held_answer : Bool → List ℕ → List ℕ → Result ℕ Refusal
+held_answer held bytes old = pick held (written_answer bytes old) (Err R.ImpreciseCastWouldLoseData)
 
 abbrev pub held_content : Bool → List ℕ → List ℕ → List ℕ
 held_content held bytes old = pick held (written_content bytes old) old

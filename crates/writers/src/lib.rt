@@ -1,6 +1,7 @@
 // The writers of numbers, specials and strings into a lent buffer. Document 01, "Bytes of an atom" and "Refusals by
 // number"; format.rs, `write_special` to `write_bytes`, and `Integer::write_to`. A writer of a number tries the next
-// smaller one first, so that it writes the smallest count that holds the value.
+// smaller one first, so that it writes the smallest count that holds the value. There is one of each width, as in the
+// original, since the exports and docs/PROMISES.md name each.
 #![tactic(auto)]
 
 ghost use Rattle.std.specs.Prelude.{◌≡◌};
@@ -11,10 +12,10 @@ ghost use Rattle.little.specs.Counts.{holds_u, holds_s};
 ghost use Rattle.types.specs.Values.{joined, joined_signed};
 ghost use Rattle.writers.specs.Bytes.{signed_bytes, unsigned_bytes, value_bytes, special_bytes, truth, bytes_bytes, held_answer, held_content};
 
-use types::{Integer, Kind, Refusal, Special, Wide, Written};
+use types::{Integer, Kind, Refusal, Special, Wide};
 
 // Writes a special atom.
-pub fn write_special(out: &mut [u8], special: Special) -> Written
+pub fn write_special(out: &mut [u8], special: Special) -> Result<usize, Refusal>
     ensures value { result ≡ written_answer (special_bytes special) out.old }
     ensures out_after { out.new ≡ written_content (special_bytes special) out.old }
 {
@@ -22,7 +23,7 @@ pub fn write_special(out: &mut [u8], special: Special) -> Written
 }
 
 // Writes None.
-pub fn write_none(out: &mut [u8]) -> Written
+pub fn write_none(out: &mut [u8]) -> Result<usize, Refusal>
     ensures value { result ≡ written_answer (special_bytes None) out.old }
     ensures out_after { out.new ≡ written_content (special_bytes None) out.old }
 {
@@ -30,7 +31,7 @@ pub fn write_none(out: &mut [u8]) -> Written
 }
 
 // Writes Unit.
-pub fn write_unit(out: &mut [u8]) -> Written
+pub fn write_unit(out: &mut [u8]) -> Result<usize, Refusal>
     ensures value { result ≡ written_answer (special_bytes Unit) out.old }
     ensures out_after { out.new ≡ written_content (special_bytes Unit) out.old }
 {
@@ -38,7 +39,7 @@ pub fn write_unit(out: &mut [u8]) -> Written
 }
 
 // Writes Named.
-pub fn write_named(out: &mut [u8]) -> Written
+pub fn write_named(out: &mut [u8]) -> Result<usize, Refusal>
     ensures value { result ≡ written_answer (special_bytes Named) out.old }
     ensures out_after { out.new ≡ written_content (special_bytes Named) out.old }
 {
@@ -46,7 +47,7 @@ pub fn write_named(out: &mut [u8]) -> Written
 }
 
 // Writes True or False.
-pub fn write_bool(out: &mut [u8], boolean: bool) -> Written
+pub fn write_bool(out: &mut [u8], boolean: bool) -> Result<usize, Refusal>
     ensures value { result ≡ written_answer (special_bytes (truth boolean)) out.old }
     ensures out_after { out.new ≡ written_content (special_bytes (truth boolean)) out.old }
 {
@@ -67,7 +68,7 @@ fn magnitude(value: i64) -> u64
 }
 
 // Writes an Int of 1 byte.
-pub fn write_i8(out: &mut [u8], value: i8) -> Written
+pub fn write_i8(out: &mut [u8], value: i8) -> Result<usize, Refusal>
     ensures value { result ≡ written_answer (signed_bytes value) out.old }
     ensures out_after { out.new ≡ written_content (signed_bytes value) out.old }
 {
@@ -75,7 +76,7 @@ pub fn write_i8(out: &mut [u8], value: i8) -> Written
 }
 
 // Writes an Int of at most 2 bytes.
-pub fn write_i16(out: &mut [u8], value: i16) -> Written
+pub fn write_i16(out: &mut [u8], value: i16) -> Result<usize, Refusal>
     ensures value { result ≡ written_answer (signed_bytes value) out.old }
     ensures out_after { out.new ≡ written_content (signed_bytes value) out.old }
 {
@@ -86,13 +87,13 @@ pub fn write_i16(out: &mut [u8], value: i16) -> Written
 }
 
 // Writes an Int of at most 3 bytes; refusal 8 of a value outside them.
-pub fn write_i24(out: &mut [u8], value: i32) -> Written
+pub fn write_i24(out: &mut [u8], value: i32) -> Result<usize, Refusal>
     ensures value { result ≡ held_answer (holds_s 3 value) (signed_bytes value) out.old }
     ensures out_after { out.new ≡ held_content (holds_s 3 value) (signed_bytes value) out.old }
 {
     let size = magnitude(value as i64);
     if 0x80_0000 <= size {
-        return Written::Refused(Refusal::ImpreciseCastWouldLoseData);
+        return Err(Refusal::ImpreciseCastWouldLoseData);
     }
     if size < 0x8000 {
         return write_i16(out, value as i16);
@@ -101,7 +102,7 @@ pub fn write_i24(out: &mut [u8], value: i32) -> Written
 }
 
 // Writes an Int of at most 4 bytes.
-pub fn write_i32(out: &mut [u8], value: i32) -> Written
+pub fn write_i32(out: &mut [u8], value: i32) -> Result<usize, Refusal>
     ensures value { result ≡ written_answer (signed_bytes value) out.old }
     ensures out_after { out.new ≡ written_content (signed_bytes value) out.old }
 {
@@ -112,13 +113,13 @@ pub fn write_i32(out: &mut [u8], value: i32) -> Written
 }
 
 // Writes an Int of at most 6 bytes; refusal 8 of a value outside them.
-pub fn write_i48(out: &mut [u8], value: i64) -> Written
+pub fn write_i48(out: &mut [u8], value: i64) -> Result<usize, Refusal>
     ensures value { result ≡ held_answer (holds_s 6 value) (signed_bytes value) out.old }
     ensures out_after { out.new ≡ held_content (holds_s 6 value) (signed_bytes value) out.old }
 {
     let size = magnitude(value);
     if 0x8000_0000_0000 <= size {
-        return Written::Refused(Refusal::ImpreciseCastWouldLoseData);
+        return Err(Refusal::ImpreciseCastWouldLoseData);
     }
     if size < 0x8000_0000 {
         return write_i32(out, value as i32);
@@ -127,7 +128,7 @@ pub fn write_i48(out: &mut [u8], value: i64) -> Written
 }
 
 // Writes an Int of at most 8 bytes.
-pub fn write_i64(out: &mut [u8], value: i64) -> Written
+pub fn write_i64(out: &mut [u8], value: i64) -> Result<usize, Refusal>
     ensures value { result ≡ written_answer (signed_bytes value) out.old }
     ensures out_after { out.new ≡ written_content (signed_bytes value) out.old }
 {
@@ -153,7 +154,7 @@ fn low_word_holds(value: Wide) -> bool
 }
 
 // Writes an Int of at most 16 bytes, whose value is two words.
-pub fn write_i128(out: &mut [u8], value: Wide) -> Written
+pub fn write_i128(out: &mut [u8], value: Wide) -> Result<usize, Refusal>
     ensures value { result ≡ written_answer (signed_bytes (joined_signed value)) out.old }
     ensures out_after { out.new ≡ written_content (signed_bytes (joined_signed value)) out.old }
 {
@@ -165,7 +166,7 @@ pub fn write_i128(out: &mut [u8], value: Wide) -> Written
 }
 
 // Writes a UInt of 1 byte.
-pub fn write_u8(out: &mut [u8], value: u8) -> Written
+pub fn write_u8(out: &mut [u8], value: u8) -> Result<usize, Refusal>
     ensures value { result ≡ written_answer (unsigned_bytes value) out.old }
     ensures out_after { out.new ≡ written_content (unsigned_bytes value) out.old }
 {
@@ -173,7 +174,7 @@ pub fn write_u8(out: &mut [u8], value: u8) -> Written
 }
 
 // Writes a UInt of at most 2 bytes.
-pub fn write_u16(out: &mut [u8], value: u16) -> Written
+pub fn write_u16(out: &mut [u8], value: u16) -> Result<usize, Refusal>
     ensures value { result ≡ written_answer (unsigned_bytes value) out.old }
     ensures out_after { out.new ≡ written_content (unsigned_bytes value) out.old }
 {
@@ -184,12 +185,12 @@ pub fn write_u16(out: &mut [u8], value: u16) -> Written
 }
 
 // Writes a UInt of at most 3 bytes; refusal 8 of a value outside them.
-pub fn write_u24(out: &mut [u8], value: u32) -> Written
+pub fn write_u24(out: &mut [u8], value: u32) -> Result<usize, Refusal>
     ensures value { result ≡ held_answer (holds_u 3 value) (unsigned_bytes value) out.old }
     ensures out_after { out.new ≡ held_content (holds_u 3 value) (unsigned_bytes value) out.old }
 {
     if 0x100_0000 <= value {
-        return Written::Refused(Refusal::ImpreciseCastWouldLoseData);
+        return Err(Refusal::ImpreciseCastWouldLoseData);
     }
     if value < 0x1_0000 {
         return write_u16(out, value as u16);
@@ -198,7 +199,7 @@ pub fn write_u24(out: &mut [u8], value: u32) -> Written
 }
 
 // Writes a UInt of at most 4 bytes.
-pub fn write_u32(out: &mut [u8], value: u32) -> Written
+pub fn write_u32(out: &mut [u8], value: u32) -> Result<usize, Refusal>
     ensures value { result ≡ written_answer (unsigned_bytes value) out.old }
     ensures out_after { out.new ≡ written_content (unsigned_bytes value) out.old }
 {
@@ -209,12 +210,12 @@ pub fn write_u32(out: &mut [u8], value: u32) -> Written
 }
 
 // Writes a UInt of at most 6 bytes; refusal 8 of a value outside them.
-pub fn write_u48(out: &mut [u8], value: u64) -> Written
+pub fn write_u48(out: &mut [u8], value: u64) -> Result<usize, Refusal>
     ensures value { result ≡ held_answer (holds_u 6 value) (unsigned_bytes value) out.old }
     ensures out_after { out.new ≡ held_content (holds_u 6 value) (unsigned_bytes value) out.old }
 {
     if 0x1_0000_0000_0000 <= value {
-        return Written::Refused(Refusal::ImpreciseCastWouldLoseData);
+        return Err(Refusal::ImpreciseCastWouldLoseData);
     }
     if value < 0x1_0000_0000 {
         return write_u32(out, value as u32);
@@ -223,7 +224,7 @@ pub fn write_u48(out: &mut [u8], value: u64) -> Written
 }
 
 // Writes a UInt of at most 8 bytes.
-pub fn write_u64(out: &mut [u8], value: u64) -> Written
+pub fn write_u64(out: &mut [u8], value: u64) -> Result<usize, Refusal>
     ensures value { result ≡ written_answer (unsigned_bytes value) out.old }
     ensures out_after { out.new ≡ written_content (unsigned_bytes value) out.old }
 {
@@ -234,7 +235,7 @@ pub fn write_u64(out: &mut [u8], value: u64) -> Written
 }
 
 // Writes a UInt of at most 16 bytes, whose value is two words.
-pub fn write_u128(out: &mut [u8], value: Wide) -> Written
+pub fn write_u128(out: &mut [u8], value: Wide) -> Result<usize, Refusal>
     ensures value { result ≡ written_answer (unsigned_bytes (joined value)) out.old }
     ensures out_after { out.new ≡ written_content (unsigned_bytes (joined value)) out.old }
 {
@@ -247,7 +248,7 @@ pub fn write_u128(out: &mut [u8], value: Wide) -> Written
 }
 
 // Writes an integer's value in the kind of its variant, in the smallest form possible.
-pub fn write_to(out: &mut [u8], integer: Integer) -> Written
+pub fn write_to(out: &mut [u8], integer: Integer) -> Result<usize, Refusal>
     ensures value { result ≡ written_answer (value_bytes integer) out.old }
     ensures out_after { out.new ≡ written_content (value_bytes integer) out.old }
 {
@@ -266,16 +267,16 @@ pub fn write_to(out: &mut [u8], integer: Integer) -> Written
 }
 
 // Writes a string: its header, then its bytes. The room of both is judged before either is written.
-pub fn write_bytes(out: &mut [u8], value: &[u8]) -> Written
+pub fn write_bytes(out: &mut [u8], value: &[u8]) -> Result<usize, Refusal>
     ensures value { result ≡ written_answer (bytes_bytes value.now) out.old }
     ensures out_after { out.new ≡ written_content (bytes_bytes value.now) out.old }
 {
     let head = header::header_length(value.len() as u64);
     let needed = head + value.len();
     if out.len() < needed {
-        return Written::Refused(Refusal::no_room(needed));
+        return Err(Refusal::no_room(needed));
     }
-    header::write_atom_header(out, Kind::Bytes, value.len() as u64);
+    let _ = header::write_atom_header(out, Kind::Bytes, value.len() as u64);
     lent::copy_in(&mut out[head..], value);
-    Written::Count(needed)
+    Ok(needed)
 }

@@ -3,11 +3,11 @@
 use Rattle.dictionary.proofs.Running.{run_laws}
 use Rattle.dictionary.proofs.run.Goals as goal
 
-pub loop-at-smaller-in-Past : goal.loop-at-smaller-in-Past
-loop-at-smaller-in-Past c = search run_laws
+pub loop-at-smaller-in-Some : goal.loop-at-smaller-in-Some
+loop-at-smaller-in-Some c = search run_laws
 
-pub loop-at-preserved-in-Past : goal.loop-at-preserved-in-Past
-loop-at-preserved-in-Past c = search run_laws
+pub loop-at-preserved-in-Some : goal.loop-at-preserved-in-Some
+loop-at-preserved-in-Some c = search run_laws
 
 pub loop-at-smaller : goal.loop-at-smaller
 loop-at-smaller c = search run_laws
@@ -15,8 +15,8 @@ loop-at-smaller c = search run_laws
 pub loop-at-preserved : goal.loop-at-preserved
 loop-at-preserved c = search run_laws
 
-pub returns-in-Refused : goal.returns-in-Refused
-returns-in-Refused c = search run_laws
+pub returns-in-Err : goal.returns-in-Err
+returns-in-Err c = search run_laws
 
 pub returns : goal.returns
 returns c = search run_laws

@@ -2,8 +2,8 @@
 use Rattle.dictionary.proofs.Ends.{skip_ends}
 use Rattle.dictionary.proofs.skip_atom.Goals as goal
 
-pub returns-in-Past : goal.returns-in-Past
-returns-in-Past c = search skip_ends
+pub returns-in_err-after : goal.returns-in_err-after
+returns-in_err-after c = search skip_ends
 
-pub returns-in-Refused : goal.returns-in-Refused
-returns-in-Refused c = search skip_ends
+pub returns : goal.returns
+returns c = search (c.in_ok-after.was, skip_ends)

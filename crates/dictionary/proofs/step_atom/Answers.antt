@@ -3,10 +3,10 @@ use Rattle.dictionary.proofs.Ends.{atom_ends}
 use Rattle.dictionary.proofs.step_atom.Goals as goal
 
 pub skip_body-requires : goal.skip_body-requires
-skip_body-requires c = search atom_ends
+skip_body-requires c = search (c.in_ok-next.was, atom_ends)
 
-pub returns-in-Read : goal.returns-in-Read
-returns-in-Read c = search atom_ends
+pub returns-in_err-next : goal.returns-in_err-next
+returns-in_err-next c = search atom_ends
 
-pub returns-in-Refused : goal.returns-in-Refused
-returns-in-Refused c = search atom_ends
+pub returns : goal.returns
+returns c = search (c.in_ok-next.was, atom_ends)

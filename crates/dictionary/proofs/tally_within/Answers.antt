@@ -13,29 +13,29 @@ overflow_add-letters c = search tally_laws
 pub overflow_add-charge : goal.overflow_add-charge
 overflow_add-charge c = search tally_laws
 
-pub loop-at-smaller-in-Past : goal.loop-at-smaller-in-Past
-loop-at-smaller-in-Past c = search tally_laws
+pub loop-at-smaller-in-Some : goal.loop-at-smaller-in-Some
+loop-at-smaller-in-Some c = search tally_laws
 
-pub loop-at-preserved-in-Past : goal.loop-at-preserved-in-Past
-loop-at-preserved-in-Past c = search tally_laws
+pub loop-at-preserved-in-Some : goal.loop-at-preserved-in-Some
+loop-at-preserved-in-Some c = search tally_laws
 
 pub letters_of-letters-requires : goal.letters_of-letters-requires
 letters_of-letters-requires c = (search step_starts, search step_inside)
 
-pub overflow_add-letters-in-Past-step_atom : goal.overflow_add-letters-in-Past-step_atom
-overflow_add-letters-in-Past-step_atom c = search tally_laws
+pub overflow_add-letters-in-Ok : goal.overflow_add-letters-in-Ok
+overflow_add-letters-in-Ok c = search tally_laws
 
-pub overflow_add-charge-in-Past-step_atom : goal.overflow_add-charge-in-Past-step_atom
-overflow_add-charge-in-Past-step_atom c = search tally_laws
+pub overflow_add-charge-in-Ok : goal.overflow_add-charge-in-Ok
+overflow_add-charge-in-Ok c = search tally_laws
 
 pub overflow_sub-headers : goal.overflow_sub-headers
 overflow_sub-headers c = search tally_laws
 
-pub overflow_add-headers-in-Past-step_atom : goal.overflow_add-headers-in-Past-step_atom
-overflow_add-headers-in-Past-step_atom c = search tally_laws
+pub overflow_add-headers-in-Ok : goal.overflow_add-headers-in-Ok
+overflow_add-headers-in-Ok c = search tally_laws
 
-pub overflow_add-headers-in-Past-step_atom-2 : goal.overflow_add-headers-in-Past-step_atom-2
-overflow_add-headers-in-Past-step_atom-2 c = search tally_laws
+pub overflow_add-headers-in-Ok-2 : goal.overflow_add-headers-in-Ok-2
+overflow_add-headers-in-Ok-2 c = search tally_laws
 
 pub loop-at-smaller : goal.loop-at-smaller
 loop-at-smaller c = search tally_laws
@@ -43,8 +43,8 @@ loop-at-smaller c = search tally_laws
 pub loop-at-preserved : goal.loop-at-preserved
 loop-at-preserved c = search tally_laws
 
-pub returns-in-Refused : goal.returns-in-Refused
-returns-in-Refused c = search tally_laws
+pub returns-in-Err : goal.returns-in-Err
+returns-in-Err c = search tally_laws
 
 pub returns : goal.returns
 returns c = search tally_laws

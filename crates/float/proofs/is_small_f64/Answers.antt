@@ -6,18 +6,18 @@ use Rattle.binary.proofs.Units.{fine}
 use Rattle.float.proofs.Compared.{both, neither}
 use Rattle.float.proofs.is_small_f64.Goals as goal
 
-pub float_from_bits-t-2 : goal.float_from_bits-t-2
+pub float_from_bits-t-3 : goal.float_from_bits-t-3
 unfolding Ieee.nan_bits Ieee.of_bits
-float_from_bits-t-2 c = search (both 51 (lit≤ tt), fine Ieee.binary64, neither 51 (lit≤ tt), rules)
+float_from_bits-t-3 c = search rules
 
 pub float_from_bits-result : goal.float_from_bits-result
 unfolding Ieee.nan_bits Ieee.of_bits
-float_from_bits-result c = search (both 51 (lit≤ tt), fine Ieee.binary64, neither 51 (lit≤ tt), rules)
+float_from_bits-result c = search rules
 
 pub returns-then-value : goal.returns-then-value
 unfolding Ieee.nan_bits Ieee.of_bits
-returns-then-value c = search (both 51 (lit≤ tt), fine Ieee.binary64, neither 51 (lit≤ tt), rules)
+returns-then-value c = search (both 51 (lit≤ tt), fine Ieee.binary64, rules)
 
 pub returns-else-value : goal.returns-else-value
 unfolding Ieee.nan_bits Ieee.of_bits
-returns-else-value c = search (both 51 (lit≤ tt), fine Ieee.binary64, neither 51 (lit≤ tt), rules)
+returns-else-value c = search (neither 51 (lit≤ tt), fine Ieee.binary64, rules)

@@ -2,8 +2,8 @@
 use Rattle.float.proofs.Ends.{value_ends}
 use Rattle.float.proofs.narrow.Goals as goal
 
-pub returns-in-Pattern : goal.returns-in-Pattern
-returns-in-Pattern c = search value_ends
+pub returns-in_default : goal.returns-in_default
+returns-in_default c = search value_ends
 
-pub returns-in-None : goal.returns-in-None
-returns-in-None c = search value_ends
+pub returns : goal.returns
+returns c = search value_ends

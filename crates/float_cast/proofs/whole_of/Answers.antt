@@ -5,9 +5,6 @@ use Rattle.float_cast.proofs.whole_of.Goals as goal
 pub returns-then-exponent-lt1023 : goal.returns-then-exponent-lt1023
 returns-then-exponent-lt1023 c = search whole_ends
 
-pub returns-then-kept-down : goal.returns-then-kept-down
-returns-then-kept-down c = search whole_ends
-
 pub returns-then-exponent-lt1075 : goal.returns-then-exponent-lt1075
 returns-then-exponent-lt1075 c = search whole_ends
 

@@ -5,5 +5,5 @@ use Rattle.header.proofs.header_length.Goals as goal
 pub returns-then-arg-lt16 : goal.returns-then-arg-lt16
 returns-then-arg-lt16 c = search length_ends
 
-pub returns : goal.returns
-returns c = search length_ends
+pub returns-else-arg-lt16 : goal.returns-else-arg-lt16
+returns-else-arg-lt16 c = search length_ends

@@ -1,11 +1,6 @@
 -- `lent::copy_each` meets its contract. The invariant: the first i bytes are the source's, and the rest as they were.
-use Prim.Native.Nat.{◌-◌}
-use lib.ListN.{length}
 use Rattle.lent.proofs.Ends.{Copying}
 use Rattle.lent.proofs.copy_each.Given as goal
 
 abbrev pub invariant-loop-i : goal.invariant-loop-i
 invariant-loop-i l = Copying l.initial.out l.source l.out l.i
-
-abbrev pub decreases-loop-i : goal.decreases-loop-i
-decreases-loop-i l = length l.source - l.i

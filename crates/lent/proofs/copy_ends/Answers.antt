@@ -2,4 +2,4 @@ use Rattle.lent.proofs.Copies.{copies}
 use Rattle.lent.proofs.copy_ends.Goals as goal
 
 pub returns : goal.returns
-returns c = search copies
+returns g c = search copies

@@ -1,10 +1,6 @@
 -- `letters::letters_in_part` meets its contract: what was counted, with what is left, is the whole.
-use Prim.Native.Nat.{◌-◌}
 use Rattle.letters.proofs.Counting.{Counting}
 use Rattle.letters.proofs.letters_in_part.Given as goal
 
 abbrev pub invariant-loop-i : goal.invariant-loop-i
 invariant-loop-i l = Counting l.string l.from l.to l.letters l.leads l.i
-
-abbrev pub decreases-loop-i : goal.decreases-loop-i
-decreases-loop-i l = l.to - l.i

@@ -1,8 +1,8 @@
 use Rattle.little.proofs.Signs.{sign_ends}
 use Rattle.little.proofs.i24_of.Goals as goal
 
-pub returns-then-v-lt8388608 : goal.returns-then-v-lt8388608
-returns-then-v-lt8388608 c = search sign_ends
+pub overflow_cast-result : goal.overflow_cast-result
+overflow_cast-result c = search sign_ends
 
-pub returns-else-v-lt8388608 : goal.returns-else-v-lt8388608
-returns-else-v-lt8388608 c = search sign_ends
+pub returns : goal.returns
+returns c = search sign_ends

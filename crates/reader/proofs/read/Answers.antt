@@ -1,12 +1,6 @@
 use Rattle.reader.proofs.Ends.{raw_ends}
 use Rattle.reader.proofs.read.Goals as goal
 
-pub returns-then-room-left-clause-value : goal.returns-then-room-left-clause-value
-returns-then-room-left-clause-value c = search raw_ends
-
-pub returns-then-room-left-clause-buffer_after : goal.returns-then-room-left-clause-buffer_after
-returns-then-room-left-clause-buffer_after c = search raw_ends
-
 pub returns-clause-value : goal.returns-clause-value
 returns-clause-value c = search raw_ends
 

@@ -13,8 +13,8 @@ returns-then-is_exact-clause-value c = search exactly_ends
 pub returns-then-is_exact-clause-buffer_after : goal.returns-then-is_exact-clause-buffer_after
 returns-then-is_exact-clause-buffer_after c = search exactly_ends
 
-pub returns-clause-value : goal.returns-clause-value
-returns-clause-value c = search exactly_ends
+pub returns-else-is_exact-clause-value : goal.returns-else-is_exact-clause-value
+returns-else-is_exact-clause-value c = search exactly_ends
 
-pub returns-clause-buffer_after : goal.returns-clause-buffer_after
-returns-clause-buffer_after c = search exactly_ends
+pub returns-else-is_exact-clause-buffer_after : goal.returns-else-is_exact-clause-buffer_after
+returns-else-is_exact-clause-buffer_after c = search exactly_ends

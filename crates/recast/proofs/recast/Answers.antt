@@ -1,4 +1,4 @@
--- `recast::recast` meets its contract: each number has its variant's arm, and the last none of them.
+-- `recast::recast` meets its contract: each number has its variant's arm.
 use Rattle.recast.specs.Recasts.{recast}
 use Rattle.recast.proofs.Ends.{number_ends}
 use Rattle.recast.proofs.recast.Goals as goal
@@ -42,7 +42,3 @@ returns-in-8 c = search number_ends
 pub returns-in-9 : goal.returns-in-9
 unfolding recast
 returns-in-9 c = search number_ends
-
-pub returns-in_default : goal.returns-in_default
-unfolding recast
-returns-in_default c = search number_ends

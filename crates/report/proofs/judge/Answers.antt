@@ -8,8 +8,8 @@ returns-then-file-gt65536 c = search judge_ends
 pub count-requires : goal.count-requires
 count-requires c = search judge_ends
 
-pub returns-in-Read : goal.returns-in-Read
-returns-in-Read c = search judge_ends
+pub returns-in-Ok : goal.returns-in-Ok
+returns-in-Ok c = search judge_ends
 
-pub returns-in-Refused : goal.returns-in-Refused
-returns-in-Refused c = search judge_ends
+pub returns-in-Err : goal.returns-in-Err
+returns-in-Err c = search judge_ends

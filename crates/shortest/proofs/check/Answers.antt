@@ -3,8 +3,8 @@
 use Rattle.shortest.proofs.Checking.{check_laws}
 use Rattle.shortest.proofs.check.Goals as goal
 
-pub loop-at-preserved-then-end-at : goal.loop-at-preserved-then-end-at
-loop-at-preserved-then-end-at c = search check_laws
+pub loop-at-preserved-in-Some : goal.loop-at-preserved-in-Some
+loop-at-preserved-in-Some c = search check_laws
 
 pub shortest_atom-requires : goal.shortest_atom-requires
 shortest_atom-requires c = search check_laws
@@ -15,11 +15,11 @@ loop-at-smaller c = search check_laws
 pub loop-at-preserved : goal.loop-at-preserved
 loop-at-preserved c = search check_laws
 
-pub returns-in-Past : goal.returns-in-Past
-returns-in-Past c = search check_laws
+pub returns-then-not-shortest_atom : goal.returns-then-not-shortest_atom
+returns-then-not-shortest_atom c = search check_laws
 
-pub returns-in-Refused : goal.returns-in-Refused
-returns-in-Refused c = search check_laws
+pub returns-in-Err : goal.returns-in-Err
+returns-in-Err c = search check_laws
 
 pub returns : goal.returns
 returns c = search check_laws

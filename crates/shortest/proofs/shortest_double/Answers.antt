@@ -2,8 +2,5 @@
 use Rattle.shortest.proofs.Arms.{width_ends}
 use Rattle.shortest.proofs.shortest_double.Goals as goal
 
-pub returns-in-Pattern : goal.returns-in-Pattern
-returns-in-Pattern c = search width_ends
-
-pub returns-in-None : goal.returns-in-None
-returns-in-None c = search width_ends
+pub returns : goal.returns
+returns c = search width_ends

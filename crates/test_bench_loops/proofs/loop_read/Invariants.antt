@@ -2,7 +2,6 @@
 use Prim.Native.Nat.{◌≤◌, ◌-◌}
 use mathlib.Core.Path.{◌≡◌}
 use lib.ListN.{length}
-use borrow.Author.Rules.{rules}
 use Rattle.test_bench_loops.proofs.loop_read.Given as goal
 
 abbrev pub invariant-loop-at : goal.invariant-loop-at

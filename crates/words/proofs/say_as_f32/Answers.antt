@@ -3,18 +3,18 @@ use Rattle.words.specs.Layout.{said_as_f32}
 use Rattle.words.proofs.Ends.{number_said, words_said, parts}
 use Rattle.words.proofs.say_as_f32.Goals as goal
 
-pub returns-in-Value-clause-value : goal.returns-in-Value-clause-value
+pub returns-in-Ok-clause-value : goal.returns-in-Ok-clause-value
 unfolding said_as_f32
-returns-in-Value-clause-value c = search (number_said said_as_f32, words_said said_as_f32, parts)
+returns-in-Ok-clause-value c = search (number_said said_as_f32, words_said said_as_f32, parts)
 
-pub returns-in-Value-clause-words_after : goal.returns-in-Value-clause-words_after
+pub returns-in-Ok-clause-words_after : goal.returns-in-Ok-clause-words_after
 unfolding said_as_f32
-returns-in-Value-clause-words_after c = search (number_said said_as_f32, words_said said_as_f32, parts)
+returns-in-Ok-clause-words_after c = search (number_said said_as_f32, words_said said_as_f32, parts)
 
-pub returns-in-Refused-clause-value : goal.returns-in-Refused-clause-value
+pub returns-in-Err-clause-value : goal.returns-in-Err-clause-value
 unfolding said_as_f32
-returns-in-Refused-clause-value c = search (number_said said_as_f32, words_said said_as_f32, parts)
+returns-in-Err-clause-value c = search (number_said said_as_f32, words_said said_as_f32, parts)
 
-pub returns-in-Refused-clause-words_after : goal.returns-in-Refused-clause-words_after
+pub returns-in-Err-clause-words_after : goal.returns-in-Err-clause-words_after
 unfolding said_as_f32
-returns-in-Refused-clause-words_after c = search (number_said said_as_f32, words_said said_as_f32, parts)
+returns-in-Err-clause-words_after c = search (number_said said_as_f32, words_said said_as_f32, parts)

@@ -3,18 +3,18 @@ use Rattle.words.specs.Layout.{said_ran}
 use Rattle.words.proofs.Ends.{number_said, words_said, parts}
 use Rattle.words.proofs.say_ran.Goals as goal
 
-pub returns-in-Done-clause-value : goal.returns-in-Done-clause-value
+pub returns-in-Ok-clause-value : goal.returns-in-Ok-clause-value
 unfolding said_ran
-returns-in-Done-clause-value c = search (number_said said_ran, words_said said_ran, parts)
+returns-in-Ok-clause-value c = search (number_said said_ran, words_said said_ran, parts)
 
-pub returns-in-Done-clause-words_after : goal.returns-in-Done-clause-words_after
+pub returns-in-Ok-clause-words_after : goal.returns-in-Ok-clause-words_after
 unfolding said_ran
-returns-in-Done-clause-words_after c = search (number_said said_ran, words_said said_ran, parts)
+returns-in-Ok-clause-words_after c = search (number_said said_ran, words_said said_ran, parts)
 
-pub returns-in-Stopped-clause-value : goal.returns-in-Stopped-clause-value
+pub returns-in-Err-clause-value : goal.returns-in-Err-clause-value
 unfolding said_ran
-returns-in-Stopped-clause-value c = search (number_said said_ran, words_said said_ran, parts)
+returns-in-Err-clause-value c = search (number_said said_ran, words_said said_ran, parts)
 
-pub returns-in-Stopped-clause-words_after : goal.returns-in-Stopped-clause-words_after
+pub returns-in-Err-clause-words_after : goal.returns-in-Err-clause-words_after
 unfolding said_ran
-returns-in-Stopped-clause-words_after c = search (number_said said_ran, words_said said_ran, parts)
+returns-in-Err-clause-words_after c = search (number_said said_ran, words_said said_ran, parts)

@@ -3,18 +3,18 @@ use Rattle.words.specs.Layout.{said_skipped}
 use Rattle.words.proofs.Ends.{number_said, words_said, parts}
 use Rattle.words.proofs.say_skipped.Goals as goal
 
-pub returns-in-Past-clause-value : goal.returns-in-Past-clause-value
+pub returns-in-Ok-clause-value : goal.returns-in-Ok-clause-value
 unfolding said_skipped
-returns-in-Past-clause-value c = search (number_said said_skipped, words_said said_skipped, parts)
+returns-in-Ok-clause-value c = search (number_said said_skipped, words_said said_skipped, parts)
 
-pub returns-in-Past-clause-words_after : goal.returns-in-Past-clause-words_after
+pub returns-in-Ok-clause-words_after : goal.returns-in-Ok-clause-words_after
 unfolding said_skipped
-returns-in-Past-clause-words_after c = search (number_said said_skipped, words_said said_skipped, parts)
+returns-in-Ok-clause-words_after c = search (number_said said_skipped, words_said said_skipped, parts)
 
-pub returns-in-Refused-clause-value : goal.returns-in-Refused-clause-value
+pub returns-in-Err-clause-value : goal.returns-in-Err-clause-value
 unfolding said_skipped
-returns-in-Refused-clause-value c = search (number_said said_skipped, words_said said_skipped, parts)
+returns-in-Err-clause-value c = search (number_said said_skipped, words_said said_skipped, parts)
 
-pub returns-in-Refused-clause-words_after : goal.returns-in-Refused-clause-words_after
+pub returns-in-Err-clause-words_after : goal.returns-in-Err-clause-words_after
 unfolding said_skipped
-returns-in-Refused-clause-words_after c = search (number_said said_skipped, words_said said_skipped, parts)
+returns-in-Err-clause-words_after c = search (number_said said_skipped, words_said said_skipped, parts)

@@ -3,18 +3,18 @@ use Rattle.words.specs.Layout.{said_written}
 use Rattle.words.proofs.Ends.{number_said, words_said, parts}
 use Rattle.words.proofs.say_written.Goals as goal
 
-pub returns-in-Count-clause-value : goal.returns-in-Count-clause-value
+pub returns-in-Ok-clause-value : goal.returns-in-Ok-clause-value
 unfolding said_written
-returns-in-Count-clause-value c = search (number_said said_written, words_said said_written, parts)
+returns-in-Ok-clause-value c = search (number_said said_written, words_said said_written, parts)
 
-pub returns-in-Count-clause-words_after : goal.returns-in-Count-clause-words_after
+pub returns-in-Ok-clause-words_after : goal.returns-in-Ok-clause-words_after
 unfolding said_written
-returns-in-Count-clause-words_after c = search (number_said said_written, words_said said_written, parts)
+returns-in-Ok-clause-words_after c = search (number_said said_written, words_said said_written, parts)
 
-pub returns-in-Refused-clause-value : goal.returns-in-Refused-clause-value
+pub returns-in-Err-clause-value : goal.returns-in-Err-clause-value
 unfolding said_written
-returns-in-Refused-clause-value c = search (number_said said_written, words_said said_written, parts)
+returns-in-Err-clause-value c = search (number_said said_written, words_said said_written, parts)
 
-pub returns-in-Refused-clause-words_after : goal.returns-in-Refused-clause-words_after
+pub returns-in-Err-clause-words_after : goal.returns-in-Err-clause-words_after
 unfolding said_written
-returns-in-Refused-clause-words_after c = search (number_said said_written, words_said said_written, parts)
+returns-in-Err-clause-words_after c = search (number_said said_written, words_said said_written, parts)

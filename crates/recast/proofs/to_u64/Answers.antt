@@ -1,9 +1,0 @@
--- `recast::to_u64` meets its contract: the cast, its answer mapped.
-use Rattle.recast.proofs.Ends.{recasts}
-use Rattle.recast.proofs.to_u64.Goals as goal
-
-pub returns-in-Value : goal.returns-in-Value
-returns-in-Value c = search recasts
-
-pub returns-in-Refused : goal.returns-in-Refused
-returns-in-Refused c = search recasts
