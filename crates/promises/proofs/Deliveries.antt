@@ -87,7 +87,7 @@ one_check s (refused_at {front} {rest} {atoms} {why} e some a bad) =
 
 -- ---- and the tally
 
-pub accepted_tally : (s : List ℕ) → length s ≤ most_bytes → check_all s ≡ (Ok tt) →
+pub accepted_tally : (s : List ℕ) → length s ≤ most_bytes → check_all s ≡ Ok tt →
     (atoms : List (List ℕ)) × (tally_all s ≡ TA.Done (last_places atoms) (priced atoms))
 accepted_tally s short e =
     let a = Answers.answer_accepted s e in (a.0, Price.tally_priced s a.0 short a.1.wholes)
@@ -116,7 +116,7 @@ pub refused_tally : (s : List ℕ) → length s ≤ most_bytes → (why : Refusa
 refused_tally s short why start e other =
     ⊎_elim (λ a. absurd (taken (Answers.accepted_answer s a.0 a.1))) (λ r. stops r (same r)) (Answers.either s)
   where
-    taken : check_all s ≡ (Ok tt) → ⊥
+    taken : check_all s ≡ Ok tt → ⊥
     taken q = let x = sym e ∙ q in false≢true cc
 
     same : (r : Refused s) → (r.why ≡ why) × (record { 0 = length r.front_bytes } ≡ start)

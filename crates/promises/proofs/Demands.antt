@@ -317,7 +317,7 @@ pub shortest_check_one : (s : List ℕ) {answer : Told} → CheckRow s answer �
 shortest_check_one = Deliveries.one_check
 
 -- What is accepted, the tally counts; what is refused by 3, 4 or 6, it refuses alike, at the same place.
-pub shortest_tally : (s : List ℕ) → length s ≤ most_bytes → check_all s ≡ (Ok tt) →
+pub shortest_tally : (s : List ℕ) → length s ≤ most_bytes → check_all s ≡ Ok tt →
     (atoms : List (List ℕ)) × (tally_all s ≡ TA.Done (last_places atoms) (priced atoms))
 shortest_tally = Deliveries.accepted_tally
 

@@ -135,7 +135,11 @@ pub record ReadBack (way : Way) (before after : List ℕ) (budget : Budget) (scr
     pub atom : Atom
     pub is_read_back :
         atom_read way (around before after value) (length before) budget scratch
-        ≡ Ok (record { 0 = length before + length (written value) }, record { 0 = budget.0 - price (written value) }, atom)
+        ≡ Ok (
+          record { 0 = length before + length (written value) },
+          record { 0 = budget.0 - price (written value) },
+          atom,
+        )
     pub stands : atom.places ≡ places_at (length before) (written value)
     pub carries :
         Carries (around before after value)
