@@ -6,6 +6,7 @@ use mathlib.Core.Bool.{Bool, true, false, false≢true}
 use mathlib.Core.List.{List}
 use Prim.Native.Nat.{ℕ, ◌-◌}
 use native.Mathlib.Omega.{arith}
+use lib.Dec.{ltb}
 use borrow.Author.Tests.{le-ltb}
 use Rattle.types.specs.Answers.{AtomAnswer}
 use Rattle.types.specs.Choice.{pick}
@@ -17,6 +18,8 @@ use Rattle.types.specs.declared.Kind.TheVariants as K
 use Rattle.types.specs.declared.Place.{Place}
 use Rattle.types.specs.declared.Budget.{Budget}
 use Rattle.types.specs.declared.Refusal.{Refusal}
+use Rattle.types.specs.declared.Refusal.TheVariants as R
+use Rattle.types.proofs.Answers.{same_err}
 use Rattle.integer.specs.Integers.{integer_kind, integer_body}
 use Rattle.float.specs.Floats.{float_body}
 use Rattle.atom.specs.Charges.{budget_after}
@@ -28,8 +31,23 @@ free b =
     let same : b.0 - 0 ≡ b.0 = omega arith in
     simp (le-ltb b.0 0 (omega arith), same)
 
+-- a charge is refused with 5, and with nothing else
+refused_at : (b : Budget) (c : ℕ) (r : Refusal) (t : Bool) →
+    ◌≡◌ {A = Result Budget Refusal} (pick t (Err R.TooManyBytesRead) (Ok (record { 0 = b.0 - c }))) (Err r) →
+    R.TooManyBytesRead ≡ r
+refused_at b c r true e = same_err e
+refused_at b c r false e = absurd (false≢true cc)
+
+pub too_many : (b : Budget) (c : ℕ) (r : Refusal) → budget_after b c ≡ Err r → R.TooManyBytesRead ≡ r
+too_many b c r e = refused_at b c r (ltb b.0 c) e
+
 -- an atom, by its charge and by whether it is known
 module _ (kind : Kind) (arg : ℕ) (next : Place) (budget : Budget) (body : Budget → AtomAnswer) where
+  pub judged_dear : (r : Refusal) → budget_after budget (charge_of kind arg) ≡ Err r →
+      Err (next, budget, R.TooManyBytesRead) ≡ judged kind arg next budget body
+  unfolding judged
+  judged_dear r e = cc (too_many budget (charge_of kind arg) r e)
+
   module _ (rest : Budget) (left : budget_after budget (charge_of kind arg) ≡ Ok rest) where
     pub judged_left : known kind arg ≡ true → body rest ≡ judged kind arg next budget body
     unfolding judged

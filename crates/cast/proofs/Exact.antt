@@ -5,7 +5,7 @@ use mathlib.Core.Path.{◌≡◌, refl}
 use mathlib.Core.Bool.{Bool, true, false}
 use Prim.Native.Nat.{ℕ, suc, ◌*◌, ◌^◌}
 use native.Mathlib.Nat.{le_of_lt}
-use lib.Dec.{ltb}
+use lib.Dec.{T, ltb, le→leb, lt→ltb}
 use lib.IntN.{ℤ, pos, negsuc, nat_abs}
 use lib.Signed.{mag}
 use lib.Ieee
@@ -15,6 +15,12 @@ use lib.Ieee.Fits.{of_int-fits}
 use borrow.Author.Tests.{ltb-true}
 use Rattle.binary.specs.Floats.{units_of}
 use Rattle.binary.proofs.Units.{Fine, fine, counted}
+
+-- what the cast asks
+pub whole_ok : (f : Ieee.Format) (z : ℤ) → ltb (mag z) (2 ^ Ieee.prec f) ≡ true → T (Ieee.in_float f z)
+unfolding Ieee.in_float
+whole_ok f (pos n) h = le→leb n (2 ^ Ieee.prec f) (le_of_lt (ltb-true n (2 ^ Ieee.prec f) h))
+whole_ok f (negsuc n) h = lt→ltb n (2 ^ Ieee.prec f) (ltb-true n (2 ^ Ieee.prec f) h)
 
 -- the sign of a whole number
 abbrev pub negative : ℤ → Bool

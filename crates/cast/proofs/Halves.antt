@@ -1,15 +1,21 @@
 -- What `From` picks, by halves of a width: the variant that the definition finds among all the smaller ones. Rests on
--- the laws of ranges: what half a width does not hold, no smaller width of that sign holds.
-use mathlib.Core.Path.{◌≡◌, refl, ◌∙◌}
-use mathlib.Core.Bool.{true, false}
+-- the laws of ranges: what half a width does not hold, no smaller width of that sign holds. And what fits a width past
+-- its signed half.
+use mathlib.Core.Path.{◌≡◌, refl, ◌∙◌, sym}
+use mathlib.Core.Bool.{true, false, false≢true}
+use Prim.Native.Nat.{ℕ, ◌-◌, ◌^◌}
+use native.Mathlib.Omega.{arith}
 use lib.Dec.{T, ltb, leb}
-use lib.IntN.{ℤ}
+use lib.Pow.{pow_pos}
+use lib.IntN.{ℤ, pos, negsuc, nat_abs}
+use lib.Signed.{le_z}
 use mir.Syntax.{Sign, unsigned, signed, Width, w8, w16, w32, w64, w128}
-use mir.Val.{bytes}
+use mir.Val.{bits, hbits, bytes, Fits}
+use borrow.Author.Tests.{lt-ltb, leb-true}
 use Rattle.types.specs.declared.Integer.{Integer}
 use Rattle.cast.specs.Variants.{variant, in_range}
 use Rattle.cast.specs.Froms.{tried, from}
-use Rattle.cast.proofs.Ranges.{narrower}
+use Rattle.cast.proofs.Ranges.{narrower, natural_fits}
 
 -- half a width; the narrowest has none, and stands for itself
 abbrev pub half : Width → Width
@@ -60,3 +66,16 @@ from_own s w64 n z h k =
 from_own s w128 n z h k =
     passed_by s w64 w64 tt z _ h k ∙ passed_by s w32 w64 tt z _ h k ∙ passed_by s w16 w64 tt z _ h k
     ∙ passed_by s w8 w64 tt z _ h k
+
+-- ---- a number past the signed half of a width
+
+in_unsigned : (v : Width) (k : ℕ) (z : ℤ) → le_z z (pos k) ≡ false → le_z z (pos (2 ^ bits v - 1)) ≡ true →
+    in_range unsigned v z ≡ true
+in_unsigned v k (pos m) h l =
+    let i = leb-true m (2 ^ bits v - 1) l in lt-ltb m (2 ^ bits v) (omega (arith, pow_pos (bits v)))
+in_unsigned v k (negsuc m) h l = absurd (false≢true (sym h))
+
+-- it fits the width, unsigned
+module _ (v : Width) (z : ℤ) where
+  pub between_fits : le_z z (pos (2 ^ hbits v - 1)) ≡ false → le_z z (pos (2 ^ bits v - 1)) ≡ true → Fits v (nat_abs z)
+  between_fits h l = natural_fits v z (in_unsigned v (2 ^ hbits v - 1) z h l)

@@ -1,7 +1,9 @@
 pub mod Places
+pub mod Words
 pub mod Ranges
 pub mod Arms
 pub mod Conversions
+pub mod Between
 pub mod Exact
 pub mod Halves
 pub mod Made

@@ -1,5 +1,5 @@
 -- The ends of the exports: no room for the words; else the library's answer is said, and a write is done.
-use Rattle.std.specs.Prelude.{Result, Err}
+use Rattle.std.specs.Prelude.{Result, Ok, Err}
 use mathlib.Core.Path.{◌≡◌, refl, ◌∙◌, sym, ap}
 use mathlib.Core.Bool.{Bool, true, false}
 use mathlib.Core.List.{List, [], ◌∷◌, ◌++◌, append-nil}
@@ -10,16 +10,23 @@ use lib.Dec.{ltb}
 use mir.Facts.{to_z-of_z}
 use lib.ListN.{length, take, drop}
 use lib.Seq.{take-length, take_all, drop-length}
+use Rattle.types.specs.Answers.{HeaderAnswer}
 use Rattle.types.specs.Choice.{pick}
 use Rattle.types.specs.declared.Integer.{Integer}
 use Rattle.types.specs.declared.Refusal.{Refusal}
 use Rattle.types.specs.declared.Kind.{Kind}
+use Rattle.types.specs.declared.Kind.TheVariants as K
 use Rattle.types.specs.declared.Special.{Special}
 use Rattle.types.specs.declared.Budget.{Budget}
 use Rattle.types.specs.declared.Way.{Way}
+use Rattle.types.specs.declared.Way.TheVariants as WY
 use Rattle.lent.specs.Lent.{written_answer, written_content, copied_over}
 use Rattle.lent.proofs.Stores.{content_short}
+use Rattle.header.specs.Header.{header_read}
+use Rattle.reader.specs.Strings.{string_of, runs_out, copied_scratch}
 use Rattle.writers.specs.Bytes.{held_answer, held_content}
+use Rattle.atom.specs.Charges.{budget_after}
+use Rattle.atom.specs.Atoms.{atom_scratch, scratch_charged, scratch_from}
 use Rattle.words.specs.Layout.{Said, word_count, short, number_of, words_of, unless_short, said_written, said_refused}
 use Rattle.recast.specs.Recasts.{of_integer}
 use Rattle.exports.specs.Named.{of_kind, of_special}
@@ -45,6 +52,34 @@ unwritten_empty (b ∷ bs) = content_short (b ∷ bs) [] (omega arith)
 unheld_empty : (held : Bool) (bytes : List ℕ) → held_content held bytes [] ≡ []
 unheld_empty true bytes = unwritten_empty bytes
 unheld_empty false bytes = refl
+
+uncopied_empty : (t : Bool) (bytes : List ℕ) → pick t [] (written_content bytes []) ≡ []
+uncopied_empty true bytes = refl
+uncopied_empty false bytes = unwritten_empty bytes
+
+uncharged_empty : (way : Way) (s : List ℕ) (place arg : ℕ) (b : Result Budget Refusal) →
+    scratch_charged way s place arg [] b ≡ []
+unfolding copied_scratch
+uncharged_empty way s place arg (Err r) = refl
+uncharged_empty WY.Filled s place arg (Ok rest) = refl
+uncharged_empty WY.ExactLent s place arg (Ok rest) = refl
+uncharged_empty WY.ExactCopied s place arg (Ok rest) =
+    uncopied_empty (runs_out s place arg) (string_of s place arg)
+
+unread_empty : (way : Way) (s : List ℕ) (budget : Budget) (h : HeaderAnswer) → scratch_from way s budget [] h ≡ []
+unread_empty way s budget (Err (place, r)) = refl
+unread_empty way s budget (Ok (next, K.Special, arg)) = refl
+unread_empty way s budget (Ok (next, K.Int, arg)) = refl
+unread_empty way s budget (Ok (next, K.UInt, arg)) = refl
+unread_empty way s budget (Ok (next, K.Float, arg)) = refl
+unread_empty way s budget (Ok (next, K.Sequence, arg)) = refl
+unread_empty way s budget (Ok (next, K.Map, arg)) = refl
+unread_empty way s budget (Ok (next, K.Symbol, arg)) = refl
+unread_empty way s budget (Ok (next, K.Bytes, arg)) = uncharged_empty way s next.0 arg (budget_after budget arg)
+
+scratch_empty : (way : Way) (s : List ℕ) (place : ℕ) (budget : Budget) → atom_scratch way s place budget [] ≡ []
+unfolding atom_scratch
+scratch_empty way s place budget = unread_empty way s budget (header_read way s place)
 
 -- What is done with a part that was lent is done with the whole: where the words have no room, with neither.
 module _ (words old : List ℕ) (room : ℕ) (g : room ≡ granted_of (length words) (length old)) where
@@ -108,6 +143,13 @@ module _ (words old : List ℕ) (room : ℕ) (g : room ≡ granted_of (length wo
       pub held_left : (part whole : List ℕ) → part ≡ held_content held bytes (take (room - 0) old) →
           held_content held bytes old ≡ whole → part ++ drop (room - 0) old ≡ unless_short words old whole
       held_left part whole p w = left_of_lem (held_content held bytes) (unheld_empty held bytes) part whole p w
+
+  -- an atom that is read, with its string copied
+  module _ (way : Way) (s : List ℕ) (place : ℕ) (budget : Budget) where
+    pub atom_left : (part : List ℕ) → part ≡ atom_scratch way s place budget (take (room - 0) old) →
+        part ++ drop (room - 0) old ≡ unless_short words old (atom_scratch way s place budget old)
+    atom_left part p =
+        left_of_lem (atom_scratch way s place budget) (scratch_empty way s place budget) part _ p refl
 
 -- a code that names nothing writes nothing
 pub unwritten : (words old whole : List ℕ) → old ≡ whole → old ≡ unless_short words old whole

@@ -1,10 +1,11 @@
--- The number of the bytes at a place, over the byte count: byte by byte, in two parts, and where its bytes stand.
-use mathlib.Core.Path.{◌≡◌, refl}
+-- The number of the bytes at a place, over the byte count: byte by byte, in two parts, and where its bytes stand. Then
+-- the same as straight-line code computes it, from one byte on.
+use mathlib.Core.Path.{◌≡◌, refl, ◌∙◌, sym, ap}
 use mathlib.Core.Bool.{Bool, true, false}
 use mathlib.Core.List.{List, ◌++◌}
-use Prim.Native.Nat.{ℕ, zero, suc, ◌+◌, ◌*◌, ◌%◌, ◌^◌, ◌<◌, ◌≤◌}
+use Prim.Native.Nat.{ℕ, zero, suc, ◌+◌, ◌-◌, ◌*◌, ◌%◌, ◌^◌, ◌<◌, ◌≤◌}
 use native.Mathlib.Omega.{arith}
-use native.Mathlib.Nat.{zero-add, add-zero, suc-add, mul_assoc, pow-suc, pow-succ'}
+use native.Mathlib.Nat.{zero-add, add-zero, suc-add, mul_comm, mul_assoc, pow-suc, pow-succ'}
 use lib.Dec.{ltb, lit<}
 use lib.ListN.{length, get_or, drop_of_length-le, get_or-eq_default}
 use lib.Seq.{drop-cons, take-nil, drop_at, take-append_seam}
@@ -67,3 +68,25 @@ number_reads n k s at before after e a =
     rw (to_length n k) at (number_stands before (to_le n k) after)
     in
     rw (e, a, stands, from_to n k)
+
+-- Straight-line code: one byte, a byte above those that are read, and two numbers.
+module _ (s : List ℕ) (at : ℕ) where
+  pub one_byte : (b : ℕ) → b ≡ get_or s at 0 → b ≡ number_at 1 s at
+  one_byte b e = e ∙ sym (number_more 0 s at ∙ rw (number_none s (suc at)) (omega arith))
+
+  pub two_parts : (n total low high weight : ℕ) → low ≡ number_at n s at → high ≡ number_at (total - n) s (at + n) →
+      n ≤ total → weight ≡ 256 ^ n → low + high * weight ≡ number_at total s at
+  two_parts n total low high weight l h k w =
+      let all : n + (total - n) ≡ total = omega arith in
+      rw (l, h, w) (ap (λ (m : ℕ). number_at n s at + m) (mul_comm (number_at (total - n) s (at + n)) (256 ^ n))
+      ∙ sym (number_add n (total - n) s at) ∙ ap (λ (m : ℕ). number_at m s at) all)
+
+  pub byte_above : (n low b weight : ℕ) → low ≡ number_at (n - 1) s at → b ≡ get_or s (at + (n - 1)) 0 → 0 < n →
+      weight ≡ 256 ^ (n - 1) → low + b * weight ≡ number_at n s at
+  byte_above n low b weight l e p w =
+      let one : n - (n - 1) ≡ 1 = omega arith in
+      let alone : number_at 1 s (at + (n - 1)) ≡ get_or s (at + (n - 1)) 0 =
+      number_more 0 s (at + (n - 1)) ∙ rw (number_none s (suc (at + (n - 1)))) (omega arith)
+      in
+      let high : b ≡ number_at (n - (n - 1)) s (at + (n - 1)) = rw one (e ∙ sym alone) in
+      two_parts (n - 1) n low b weight l high (omega arith) w
