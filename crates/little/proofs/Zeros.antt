@@ -1,17 +1,14 @@
 -- Filled reading is reading the source with zeros after it: they change no byte and no number. A block of the bytes at
--- a place, filled up with zeros, has the numbers that stand there; then the function that fills such a block.
+-- a place, filled up with zeros, has the numbers that stand there; then the loop that fills such a block.
 use mathlib.Core.Path.{◌≡◌, refl, ◌∙◌, sym, ap}
-use mathlib.Core.Bool.{Bool, true, false}
 use mathlib.Core.List.{List, [], ◌∷◌, ◌++◌, append-nil}
-use Prim.Native.Nat.{ℕ, zero, suc, ◌+◌, ◌-◌, ◌≤◌, min}
+use Prim.Native.Nat.{ℕ, zero, suc, ◌+◌, ◌≤◌, ◌<◌}
 use native.Mathlib.Omega.{arith}
 use borrow.Author.Rules.{rules}
-use borrow.Author.Tests.{ltb-true, ltb-false}
-use borrow.Rule.Slice.PartMut.{post_of}
-use lib.Dec.{ltb}
-use lib.ListN.{length, take, drop, get_or, replicate, length-append, length-drop, length-replicate, drop_of_length-le}
-use lib.Seq.{length-take-le, take-take, take-length, take-append-le, take-append-add}
-use Rattle.std.proofs.lemmas.List.{drop-replicate, take-replicate}
+use lib.ListN.{length, drop, get_or, set, replicate, length-append, length-replicate, drop_of_length-le}
+use lib.Seq.{length-take-le, get_or-take, get_or-drop, take-take}
+use Rattle.lent.specs.Lent.{copied_over}
+use Rattle.lent.proofs.Ends.{Copying, copy_begins, copy_turn, copy_ends}
 use Rattle.little.specs.Le.{from_le, number_at, filled_at}
 use Rattle.little.proofs.At.{number_more, number_none}
 
@@ -41,6 +38,11 @@ module _ (n : ℕ) (s : List ℕ) (at : ℕ) where
       in
       length-take-le n (drop at s ++ replicate n 0) (omega arith)
 
+  pub filled_byte : (i : ℕ) → i < n → get_or (filled_at n s at) i 0 ≡ get_or s (at + i) 0
+  unfolding filled_at
+  filled_byte i h =
+      get_or-take n (drop at s ++ replicate n 0) i 0 h ∙ byte_zeros (drop at s) n i ∙ get_or-drop at s i 0
+
   pub filled_number : (count : ℕ) → count ≤ n → number_at count (filled_at n s at) 0 ≡ number_at count s at
   unfolding filled_at number_at
   filled_number count h =
@@ -61,39 +63,36 @@ module _ (n : ℕ) (s : List ℕ) (at : ℕ) (block : List ℕ) (b : block ≡ f
 
 pub ruleset block_laws = (block_length, block_room, block_number)
 
--- The ends of the function that fills a block of zeros: nothing is there, or as many bytes as it holds at most.
-module _ (s : List ℕ) (at : ℕ) where
-  pub none_there : length s ≤ at → replicate {A = ℕ} 16 0 ≡ filled_at 16 s at
-  unfolding filled_at
-  none_there h = rw (drop_of_length-le s {i = at} h) refl
+-- The loop that fills a block: so many of its bytes are there, and the rest zero.
+pub record Filling (n : ℕ) (s : List ℕ) (at : ℕ) (block : List ℕ) (i : ℕ) : Type 0 where
+  pub copied : Copying (replicate n 0) (filled_at n s at) block i
 
-  -- so many of the bytes, and zeros after them
-  filled_by : (n count : ℕ) → count ≡ min (length (drop at s)) n →
-      take count (drop at s) ++ replicate (n - count) 0 ≡ filled_at n s at
-  unfolding filled_at
-  filled_by n count c = by_test (ltb n (length (drop at s))) refl
-    where
-      by_test : (t : Bool) → ltb n (length (drop at s)) ≡ t →
-          take count (drop at s) ++ replicate (n - count) 0 ≡ take n (drop at s ++ replicate n 0)
-      by_test true e =
-          let h = ltb-true n (length (drop at s)) e in
-          let all : count ≡ n = c ∙ omega arith in
-          let none : n - n ≡ 0 = omega arith in
-          rw (all, none, take-append-le n (drop at s) (replicate n 0) (omega arith)) (append-nil (take n (drop at s)))
-      by_test false e =
-          let h = ltb-false n (length (drop at s)) e in
-          let all : count ≡ length (drop at s) = c ∙ omega arith in
-          let rest : length (drop at s) + (n - length (drop at s)) ≡ n = omega arith in
-          let zeros = take-replicate {X = ℕ} (n - length (drop at s)) n 0 (omega arith) in
-          rw (all, take-length (drop at s), ← zeros)
-          (sym (take-append-add (drop at s) (replicate n 0) (n - length (drop at s)))
-          ∙ ap (λ (k : ℕ). take k (drop at s ++ replicate n 0)) rest)
+module _ (n : ℕ) (s : List ℕ) (at : ℕ) where
+  pub fill_begins : Filling n s at (replicate n 0) 0
+  fill_begins = record { copied = copy_begins (replicate n 0) (filled_at n s at) }
 
-  pub some_there : (part : List ℕ) (count : ℕ) → part ≡ take (at + count - at) (drop at s) →
-      count ≡ min (length s - at) 16 → part ++ post_of 0 (count - 0) (replicate 16 0) ≡ filled_at 16 s at
-  some_there part count is c =
-      let same : at + count - at ≡ count = omega arith in
-      let none : count - 0 ≡ count = omega arith in
-      rw (is, same, none, drop-replicate {X = ℕ} count 16 0) (filled_by 16 count (c ∙ ap (λ (k : ℕ). min k 16) (sym (length-drop at s))))
+  module _ (block : List ℕ) (i : ℕ) (f : Filling n s at block i) where
+    pub fill_size : length block ≡ n
+    fill_size = f.copied.size ∙ length-replicate n 0
 
-pub ruleset fill_laws = (none_there, some_there, rules)
+    pub fill_turn : (b : ℕ) → i < n → b ≡ get_or s (at + i) 0 → Filling n s at (set block i b) (i + 1)
+    fill_turn b h e =
+        let long = filled_length n s at in
+        let room = length-replicate {A = ℕ} n 0 in
+        let same : get_or (filled_at n s at) i 0 ≡ b = filled_byte n s at i h ∙ sym e in
+        record {
+          copied = rw same at
+              (copy_turn (replicate n 0) (filled_at n s at) block i f.copied (omega arith) (omega arith));
+        }
+
+    pub fill_ends : n ≤ i → block ≡ filled_at n s at
+    unfolding copied_over
+    fill_ends h =
+        let long = filled_length n s at in
+        let room = length-replicate {A = ℕ} n 0 in
+        let none_left : drop {A = ℕ} (length (filled_at n s at)) (replicate n 0) ≡ [] =
+        drop_of_length-le (replicate n 0) {i = length (filled_at n s at)} (omega arith)
+        in
+        copy_ends (replicate n 0) (filled_at n s at) block i f.copied (omega arith) ∙ rw (none_left, append-nil)
+
+pub ruleset fill_laws = (fill_begins, fill_size, fill_turn, fill_ends, rules)

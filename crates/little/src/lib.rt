@@ -92,9 +92,8 @@ pub fn filled(s: &[u8], at: usize) -> [u8; 16]
     ensures { result ≡ filled_at 16 s.now at }
 {
     let mut block = [0u8; 16];
-    if at < s.len() {
-        let count = (s.len() - at).min(16);
-        block[0..count].copy_from_slice(&s[at..at + count]);
+    for i in 0..16 {
+        block[i] = byte_at(s, at, i) as u8;
     }
     block
 }
