@@ -76,20 +76,20 @@ fn skip_body(source: &[u8], kind: Kind, arg: u64, at: Place, left: Budget) -> St
     ensures { result ≡ step_after (length source.now) kind arg at.0 left.0 }
 {
     match kind {
-        Kind::Sequence | Kind::Map | Kind::Symbol => Ok((at, left, at, false)),
+        Kind::Sequence | Kind::Map | Kind::Symbol => return Ok((at, left, at, false)),
         Kind::Special => match Special::try_from(arg) {
-            Ok(_) => Ok((at, left, at, false)),
-            Err(refusal) => Err((at, left, refusal)),
+            Ok(_) => return Ok((at, left, at, false)),
+            Err(refusal) => return Err((at, left, refusal)),
         },
         Kind::Int | Kind::UInt => {
             let count = atom::count_of(arg);
-            skip_number(source, kind, count, integer::allowed(count), at, left)
+            return skip_number(source, kind, count, integer::allowed(count), at, left);
         }
         Kind::Float => {
             let count = atom::count_of(arg);
-            skip_number(source, kind, count, float::allowed(count), at, left)
+            return skip_number(source, kind, count, float::allowed(count), at, left);
         }
-        Kind::Bytes => skip_bytes(source, arg, at, left),
+        Kind::Bytes => return skip_bytes(source, arg, at, left),
     }
 }
 
