@@ -212,7 +212,22 @@ module _ (bits : ℕ) (r : Option ℕ) (t : Bool) (h : is_some r ≡ not t) wher
       t ≡ fewest 8 (float_meant 8 bits (meaning double bits))
   double_told w e = told_lost r t h ∙ ap is_lost e ∙ sym (double-fewest bits w.fits)
 
-pub ruleset width_ends = (single_told, double_told, rules)
+-- the same, case by case
+module _ (bits : ℕ) (w : Fits w32 bits) (r : Option ℕ) (e : r ≡ narrowed single half bits) where
+  pub single_kept : (q : ℕ) → r ≡ Some q → false ≡ fewest 4 (float_meant 4 bits (meaning single bits))
+  single_kept q p = ap is_lost (sym p ∙ e) ∙ sym (single-fewest bits w.fits)
+
+  pub single_lost : r ≡ None → true ≡ fewest 4 (float_meant 4 bits (meaning single bits))
+  single_lost p = ap is_lost (sym p ∙ e) ∙ sym (single-fewest bits w.fits)
+
+module _ (bits : ℕ) (w : Fits w64 bits) (r : Option ℕ) (e : r ≡ narrowed double single bits) where
+  pub double_kept : (q : ℕ) → r ≡ Some q → false ≡ fewest 8 (float_meant 8 bits (meaning double bits))
+  double_kept q p = ap is_lost (sym p ∙ e) ∙ sym (double-fewest bits w.fits)
+
+  pub double_lost : r ≡ None → true ≡ fewest 8 (float_meant 8 bits (meaning double bits))
+  double_lost p = ap is_lost (sym p ∙ e) ∙ sym (double-fewest bits w.fits)
+
+pub ruleset width_ends = (single_told, double_told, single_kept, single_lost, double_kept, double_lost, rules)
 
 -- an arm of a width
 module _ (s : List ℕ) (at count : ℕ) where
