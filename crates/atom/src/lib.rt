@@ -203,7 +203,7 @@ fn read_bytes(
 }
 
 // What follows a header, by its kind. Each arm returns by itself: where they came together, a call for a short string
-// took a fifth longer.
+// took a third longer.
 fn read_body(
     source: &[u8],
     header: Header,

@@ -121,7 +121,7 @@ pub ruleset unsigned_arms = (unsigned_one, unsigned_two, unsigned_four, unsigned
 
 pub ruleset arms = (signed_arms, unsigned_arms, sixteen_there, two_words, rules)
 
--- a count that is one of the list, as its tests know it (below 1, at most 4, or one of three), and one that is not
+-- a count that is one of the list, by where it lies (below 1, at most 4, or one of three), and one that is not
 module _ (count : ℕ) where
   pub none_unlisted : count < 1 → false ≡ allowed_count count
   unfolding listed
